@@ -1,0 +1,11 @@
+//! The registers of the chip, after those of the SYM53C810A: each by its name and by its place, the bits that stop
+//! the chip, and the cause for which it is stopped.
+//!
+//! No call here takes memory.
+#![tactic(auto)]
+
+mod bits;
+mod registers;
+
+pub use bits::{Ctest2, Dstat, Istat, Sist0, Sist1};
+pub use registers::{Cause, Regs};
