@@ -1,0 +1,15 @@
+//! The instruction table of the chip: instructions as values, to words and back.
+#![tactic(auto)]
+
+mod decoding;
+mod encoding;
+mod fields;
+mod guessing;
+#[cfg(test)]
+mod tests;
+mod values;
+
+pub use decoding::decode;
+pub use encoding::{Spelling, encode};
+pub use fields::has_fields;
+pub use values::{Address, Change, Condition, Op};
