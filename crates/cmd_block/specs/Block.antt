@@ -1,0 +1,40 @@
+-- The layout of a command block (own).
+use Rattle.std.specs.Prelude.{ℕ, ◌+◌, ◌*◌, ◌<◌, List}
+use Rattle.bench_words.specs.Memory.{word_at}
+use Rattle.cmd_block.specs.declared.Field.{Field}
+use Rattle.cmd_block.specs.declared.Field.TheVariants.{Start, Restart, Lastp, Savep, State, Status, Sel, Gate, MsgCount, MsgAt, CmdCount, CmdAt, StatCount, StatAt, SegCount, SegAt, CtxCount, CtxAt, CtxReturn}
+
+-- there are 16 segments and two contexts
+abbrev pub IsField : Field → Type 0
+IsField (SegCount j) = j < 16
+IsField (SegAt j) = j < 16
+IsField (CtxCount j) = j < 2
+IsField (CtxAt j) = j < 2
+IsField (CtxReturn j) = j < 2
+IsField f = Unit {0}
+
+-- where a field lies in its block
+abbrev pub offset : Field → ℕ
+offset Start = 0x00
+offset Restart = 0x04
+offset Lastp = 0x08
+offset Savep = 0x0C
+offset State = 0x10
+offset Status = 0x14
+offset Sel = 0x18
+offset Gate = 0x1C
+offset MsgCount = 0x20
+offset MsgAt = 0x24
+offset CmdCount = 0x28
+offset CmdAt = 0x2C
+offset StatCount = 0x30
+offset StatAt = 0x34
+offset (SegCount j) = 0x40 + 8 * j
+offset (SegAt j) = 0x44 + 8 * j
+offset (CtxCount j) = 0xC0 + 0x10 * j
+offset (CtxAt j) = 0xC4 + 0x10 * j
+offset (CtxReturn j) = 0xC8 + 0x10 * j
+
+-- a field of a block, in memory
+abbrev pub field_of : List ℕ → ℕ → Field → ℕ
+field_of m block f = word_at m (block + offset f)
