@@ -1,0 +1,5 @@
+pub mod Numbers
+pub mod Seatwise
+pub mod SeatSteps
+pub mod Keeps
+pub mod Following

@@ -1,0 +1,4 @@
+pub mod Log
+pub mod Rule
+pub mod Stepped
+pub mod Views
