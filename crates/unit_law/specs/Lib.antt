@@ -1,0 +1,4 @@
+pub mod Request
+pub mod Log
+pub mod Report
+pub mod Laws
