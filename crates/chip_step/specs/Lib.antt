@@ -1,0 +1,11 @@
+pub mod Event
+pub mod Laws
+pub mod Chip
+pub mod Addresses
+pub mod Bytes
+pub mod Blocks
+pub mod Connection
+pub mod Transfers
+pub mod Memory
+pub mod Instructions
+pub mod Step
