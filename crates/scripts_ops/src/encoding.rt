@@ -11,7 +11,7 @@ pub struct Spelling {
     pub length: u8,
 }
 
-fn bits_of(offset: i32) -> u32
+fn offset_bits(offset: i32) -> u32
     requires { IsOffset offset }
     ensures bits { result ≡ offset_bits offset }
     ensures most { result < 16777216 }
@@ -51,7 +51,7 @@ fn flag_bits(ack: bool, atn: bool) -> u32
     ack + atn
 }
 
-fn code_of_change(change: Change) -> u32
+fn change_code(change: Change) -> u32
     ensures code { result ≡ change_code change }
     ensures most { result < 8 }
 {
@@ -62,17 +62,17 @@ fn code_of_change(change: Change) -> u32
     }
 }
 
-fn at(place: Address) -> u32
+fn address_bits(place: Address) -> u32
     requires { IsAddress place }
     ensures { result ≡ address_bits place }
 {
     match place {
         Address::At(a) => a,
-        Address::FromDsa(offset) => bits_of(offset),
+        Address::FromDsa(offset) => offset_bits(offset),
     }
 }
 
-fn top_of(place: Address) -> u32
+fn address_top(place: Address) -> u32
     ensures top { result ≡ address_top place }
     ensures most { result < 0xf1 }
 {
@@ -82,7 +82,7 @@ fn top_of(place: Address) -> u32
     }
 }
 
-fn register_word(register: u8, byte: u8) -> u32
+fn register_bits(register: u8, byte: u8) -> u32
     ensures { result ≡ register_bits register byte }
 {
     register as u32 * 0x1_0000 + byte as u32 * 0x100
@@ -92,7 +92,8 @@ fn register_word(register: u8, byte: u8) -> u32
 /// (`has_fields` tests it), as those of each instruction that `decode` gives are. Takes no memory.
 pub fn encode(op: &Op) -> Spelling
     requires { (row op.now).fields }
-    ensures spelled { Spelled (slice_index result.words 0) (slice_index result.words 1) (slice_index result.words 2) op.now }
+    ensures spelled { Spelled (slice_index result.words 0) (slice_index result.words 1)
+        (slice_index result.words 2) op.now }
     ensures words { result.words ≡ words_of op.now }
     ensures length { result.length ≡ word_count op.now }
 {
@@ -102,8 +103,12 @@ pub fn encode(op: &Op) -> Spelling
             address,
             phase,
         } => ((0x08 + phase as u32) * 0x100_0000 + count, address, 0),
-        Op::MoveFrom { offset, phase } => ((0x18 + phase as u32) * 0x100_0000, bits_of(offset), 0),
-        Op::Select { offset, alternate } => (0x4300_0000 + bits_of(offset), alternate, 0),
+        Op::MoveFrom { offset, phase } => (
+            (0x18 + phase as u32) * 0x100_0000,
+            offset_bits(offset),
+            0,
+        ),
+        Op::Select { offset, alternate } => (0x4300_0000 + offset_bits(offset), alternate, 0),
         Op::WaitDisconnect => (0x4800_0000, 0, 0),
         Op::WaitReselect { alternate } => (0x5000_0000, alternate, 0),
         Op::Set { ack, atn } => (0x5800_0000 + flag_bits(ack, atn), 0, 0),
@@ -113,7 +118,7 @@ pub fn encode(op: &Op) -> Spelling
             byte,
             register,
         } => (
-            (0x68 + code_of_change(change)) * 0x100_0000 + register_word(register, byte),
+            (0x68 + change_code(change)) * 0x100_0000 + register_bits(register, byte),
             0,
             0,
         ),
@@ -122,7 +127,7 @@ pub fn encode(op: &Op) -> Spelling
             change,
             byte,
         } => (
-            (0x70 + code_of_change(change)) * 0x100_0000 + register_word(register, byte),
+            (0x70 + change_code(change)) * 0x100_0000 + register_bits(register, byte),
             0,
             0,
         ),
@@ -131,11 +136,11 @@ pub fn encode(op: &Op) -> Spelling
             change,
             byte,
         } => (
-            (0x78 + code_of_change(change)) * 0x100_0000 + register_word(register, byte),
+            (0x78 + change_code(change)) * 0x100_0000 + register_bits(register, byte),
             0,
             0,
         ),
-        Op::Put { byte, register } => (0x7800_0000 + register_word(register, byte), 0, 0),
+        Op::Put { byte, register } => (0x7800_0000 + register_bits(register, byte), 0, 0),
         Op::Jump { on, address } => (0x8000_0000 + condition_word(on), address, 0),
         Op::Call { on, address } => (0x8800_0000 + condition_word(on), address, 0),
         Op::Return { on } => (0x9000_0000 + condition_word(on), 0, 0),
@@ -152,8 +157,8 @@ pub fn encode(op: &Op) -> Spelling
             count,
             place,
         } => (
-            (top_of(place) + 1) * 0x100_0000 + register as u32 * 0x1_0000 + count as u32,
-            at(place),
+            (address_top(place) + 1) * 0x100_0000 + register as u32 * 0x1_0000 + count as u32,
+            address_bits(place),
             0,
         ),
         Op::Store {
@@ -161,8 +166,8 @@ pub fn encode(op: &Op) -> Spelling
             count,
             place,
         } => (
-            top_of(place) * 0x100_0000 + register as u32 * 0x1_0000 + count as u32,
-            at(place),
+            address_top(place) * 0x100_0000 + register as u32 * 0x1_0000 + count as u32,
+            address_bits(place),
             0,
         ),
     };

@@ -26,28 +26,28 @@ fn is_condition(on: Condition) -> bool
     }
 }
 
-fn wide(r: u8) -> bool
+fn is_wide(r: u8) -> bool
     ensures { result ≡ is_wide r }
 {
     matches!(r, 0x10..=0x13 | 0x1c..=0x1f | 0x34..=0x37 | 0x5c..=0x5f)
 }
 
-fn written(r: u8) -> bool
+fn is_written(r: u8) -> bool
     ensures { result ≡ is_written r }
 {
-    matches!(r, 0x00 | 0x03 | 0x05 | 0x06 | 0x08) || wide(r)
+    matches!(r, 0x00 | 0x03 | 0x05 | 0x06 | 0x08) || is_wide(r)
 }
 
-fn readable(r: u8) -> bool
+fn is_read(r: u8) -> bool
     ensures { result ≡ is_read r }
 {
-    written(r) || r == 0x0a || r == 0x1a
+    is_written(r) || r == 0x0a || r == 0x1a
 }
 
 fn is_part(r: u8, count: u8) -> bool
     ensures { IsTrue result ↔ IsPart r count }
 {
-    wide(r) && count > 0 && count <= 4 && r % 4 + count <= 4
+    is_wide(r) && count > 0 && count <= 4 && r % 4 + count <= 4
 }
 
 fn is_address(place: Address) -> bool
@@ -74,21 +74,21 @@ pub fn has_fields(op: &Op) -> bool
             register,
             byte: _byte,
             ..
-        } => written(register) && register != 8,
+        } => is_written(register) && register != 8,
         Op::ToSfbr {
             register,
             byte: _byte,
             ..
-        } => readable(register),
+        } => is_read(register),
         Op::Modify {
             register,
             byte: _byte,
             ..
-        } => written(register) && register != 8,
+        } => is_written(register) && register != 8,
         Op::Put {
             register,
             byte: _byte,
-        } => written(register),
+        } => is_written(register),
         Op::Jump { on, .. } => is_condition(on),
         Op::Call { on, .. } => is_condition(on),
         Op::Return { on } => is_condition(on),
