@@ -63,11 +63,14 @@ impl Lun {
     #[tactic(auto, unfolding(crate::specs::Performing::perform, crate::specs::Performing::wants_now))]
     pub fn perform(&mut self, c: &Cdb, received: &[u8], out: &mut [u8]) -> Answer
         requires room { (wants_now self.old c.now).bytes ≤ length out.old }
-        requires whole { (need_of c.now).direction ≡ Out → length received.now ≡ (wants_now self.old c.now).bytes }
+        requires whole { (need_of c.now).direction ≡ Out →
+            length received.now ≡ (wants_now self.old c.now).bytes }
         ensures unit { self.new ≡ (perform self.old c.now received.now).unit }
         ensures status { result.status ≡ (perform self.old c.now received.now).answer.status }
         ensures sent { result.sent ≡ length (perform self.old c.now received.now).answer.bytes }
-        ensures bytes { out.new ≡ (perform self.old c.now received.now).answer.bytes ++ drop (length (perform self.old c.now received.now).answer.bytes) out.old }
+        ensures bytes { out.new ≡
+            (perform self.old c.now received.now).answer.bytes ++
+            drop (length (perform self.old c.now received.now).answer.bytes) out.old }
     {
         match *c {
             Cdb::Inquiry { len } => self.inquiry(len, out),
@@ -112,9 +115,15 @@ impl Lun {
     fn read(&mut self, lba: u32, blocks: u32, out: &mut [u8]) -> Answer
         requires { holds self.old lba blocks ≡ true → 512 * blocks ≤ length out.old }
         ensures unit { self.new ≡ (transferred (holds self.old lba blocks) self.old self.old.disk []).unit }
-        ensures status { result.status ≡ (transferred (holds self.old lba blocks) self.old self.old.disk []).answer.status }
-        ensures sent { result.sent ≡ length (transferred (holds self.old lba blocks) self.old self.old.disk (blocks_at self.old.disk lba blocks)).answer.bytes }
-        ensures bytes { out.new ≡ (transferred (holds self.old lba blocks) self.old self.old.disk (blocks_at self.old.disk lba blocks)).answer.bytes ++ drop result.sent out.old }
+        ensures status { result.status ≡
+            (transferred (holds self.old lba blocks) self.old self.old.disk []).answer.status }
+        ensures sent { result.sent ≡
+            length (transferred (holds self.old lba blocks) self.old self.old.disk
+            (blocks_at self.old.disk lba blocks)).answer.bytes }
+        ensures bytes { out.new ≡
+            (transferred (holds self.old lba blocks) self.old self.old.disk
+            (blocks_at self.old.disk lba blocks)).answer.bytes ++
+            drop result.sent out.old }
     {
         if !self.holds(lba, blocks) {
             return self.check(SenseCode::illegal(BAD_ADDRESS));
@@ -128,8 +137,11 @@ impl Lun {
     #[tactic(auto, unfolding(crate::specs::Performing::holds, crate::specs::Performing::stored))]
     fn write(&mut self, lba: u32, blocks: u32, received: &[u8]) -> Answer
         requires { holds self.old lba blocks ≡ true → length received.now ≡ 512 * blocks }
-        ensures unit { self.new ≡ (transferred (holds self.old lba blocks) self.old (stored self.old.disk (512 * lba) received.now) []).unit }
-        ensures status { result.status ≡ (transferred (holds self.old lba blocks) self.old self.old.disk []).answer.status }
+        ensures unit { self.new ≡
+            (transferred (holds self.old lba blocks) self.old
+            (stored self.old.disk (512 * lba) received.now) []).unit }
+        ensures status { result.status ≡
+            (transferred (holds self.old lba blocks) self.old self.old.disk []).answer.status }
         ensures sent { result.sent ≡ 0 }
     {
         if !self.holds(lba, blocks) {
