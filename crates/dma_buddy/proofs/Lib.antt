@@ -1,0 +1,12 @@
+pub mod Counting
+pub mod Giving
+pub mod Held
+pub mod Intervals
+pub mod Layers
+pub mod Lists
+pub mod Marking
+pub mod Places
+pub mod Sets
+pub mod Sizes
+pub mod Splitting
+pub mod Taking

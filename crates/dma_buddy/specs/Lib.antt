@@ -1,0 +1,6 @@
+pub mod Bits
+pub mod Chunks
+pub mod Kept
+pub mod Lists
+pub mod Marks
+pub mod Regions
