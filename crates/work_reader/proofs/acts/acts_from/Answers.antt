@@ -1,0 +1,26 @@
+use Rattle.std.proofs.Common.{◌≡◌, ◌+◌, [], ◌∷◌, drop, arith, length-append}
+use Rattle.std.proofs.lemmas.List.Elements.{All-push}
+use Rattle.rig_types.specs.Works.{IsAct}
+use Rattle.toml.specs.Data.{item}
+use Rattle.toml.specs.View.{view, items_view}
+use Rattle.toml.proofs.Views.{items_view-drop}
+use Rattle.file_keys.specs.Keys.{entries_fault, entries_of}
+use Rattle.file_keys.proofs.Entries.{entries_on, values_on}
+use Rattle.work_reader.specs.WorkFile.{act_fault, act_in}
+use Rattle.work_reader.proofs.acts.acts_from.Goals as goal
+
+pub loop-n-preserved : goal.loop-n-preserved
+loop-n-preserved c =
+    let entries = c.args.entries.now in
+    let n = c.loop-n.n in
+    let v = c.index-entries-n.result in
+    let more : items_view (drop n entries) ≡ item (view v) (items_view (drop (n + 1) entries)) = rw (items_view-drop entries n v c.loop-n-test.true, ← c.index-entries-n.is) in
+    let rest = items_view (drop (n + 1) entries) in
+    let f = act_fault c.args.counts.now in
+    let xs = c.loop-n.out.items in
+    record {
+      faults = entries_on f n (view v) rest (entries_fault f 0 (items_view entries)) c.in_ok-x.ensures.reads.0 (rw more at c.loop-n.invariant.faults);
+      values = rw c.in_ok-push.ensures.items (values_on act_in xs c.in_ok-x.x (view v) rest (entries_of act_in (items_view entries)) c.in_ok-x.ensures.reads.1 (rw more at c.loop-n.invariant.values));
+      len = rw c.in_ok-push.ensures.items (omega (arith, c.loop-n.invariant.len, length-append xs (c.in_ok-x.x ∷ [])));
+      valid = rw c.in_ok-push.ensures.items (All-push (IsAct c.args.counts.now) xs c.in_ok-x.x c.loop-n.invariant.valid c.in_ok-x.ensures.valid);
+    }
