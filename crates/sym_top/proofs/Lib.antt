@@ -1,0 +1,3 @@
+pub mod Decimals
+pub mod Printing
+pub mod Words

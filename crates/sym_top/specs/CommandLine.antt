@@ -1,0 +1,22 @@
+-- The words of the command line.
+use Rattle.std.specs.Prelude.{◌≡◌, ◌≢◌, ℕ, ◌<◌, ◌^◌, List, [], ◌∷◌, length, slice_index, codes}
+use Rattle.std.specs.Fmt.{decimal}
+
+-- a word is the decimal of a number that fits 32 bits: no sign, no blank, no leading zero
+pub record IsNumber (word : List ℕ) (n : ℕ) : Type 0 where
+  pub is : word ≡ decimal n
+  pub fits : n < 2 ^ 32
+
+-- a word that begins as such a number may: with no sign, and with 0 only alone
+pub record IsPlain (word : List ℕ) : Type 0 where
+  pub some : 0 < length word
+  pub unsigned : slice_index word 0 ≢ 43
+  pub no_zeros : slice_index word 0 ≡ 48 → length word ≡ 1
+
+-- a command with its words
+pub data Command : Type 0 where
+  one : ℕ → Command
+
+-- these words, after the program's own name, are the command's
+abbrev pub Spells : List (List ℕ) → Command → Type 0
+Spells words (one lba) = (word : List ℕ) × (words ≡ codes "one" ∷ word ∷ []) × IsNumber word lba

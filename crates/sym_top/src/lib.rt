@@ -1,0 +1,14 @@
+//! The commands of the program.
+#![tactic(auto)]
+
+mod answer;
+mod commands;
+mod exit;
+mod job;
+mod numbers;
+mod one;
+mod plain_unit;
+mod refusal;
+
+pub use answer::answer_alone;
+pub use exit::Exit;

@@ -1,0 +1,7 @@
+//! Tests that cross crates: the top call over sinks and shelves in memory.
+#![tactic(auto)]
+
+#[cfg(test)]
+mod one;
+#[cfg(test)]
+mod world;

@@ -1,0 +1,55 @@
+//! What a command is given in memory, and what it leaves.
+
+ghost use Rattle.std.specs.Prelude.{◌<◌};
+
+use scsi_words::{Counts, Text};
+use std::alloc::{AllocError, Global};
+use sym_io::{Files, MemorySink, QuietShelf};
+use sym_top::{Exit, answer_alone};
+
+/// How a sink behaves: the most bytes of one write, and the calls, counted from 1, that fail.
+#[derive(Clone, Copy)]
+pub struct Sinking {
+    pub most: u32,
+    pub failing: Option<u32>,
+}
+
+/// A sink that takes every piece whole.
+pub const WHOLE: Sinking = Sinking {
+    most: 0x1_0000,
+    failing: None,
+};
+
+/// What a command left: its status, and what it printed.
+#[derive(Drop)]
+pub struct Left {
+    pub exit: Exit,
+    pub out: MemorySink,
+    pub err: MemorySink,
+}
+
+fn sink(alloc: Global, how: Sinking) -> Result<MemorySink, AllocError>
+    requires { 0 < how.most }
+{
+    let mut failing = Vec::new(alloc);
+    if let Some(call) = how.failing {
+        failing.push(call)?;
+    }
+    MemorySink::new(alloc, 0x1_0000, how.most, Counts::of(failing))
+}
+
+/// Runs a command of these words over an empty shelf.
+pub fn run(alloc: Global, words: &[&str], out: Sinking, err: Sinking) -> Result<Left, AllocError>
+    requires out { 0 < out.most }
+    requires err { 0 < err.most }
+{
+    let mut texts = Vec::new(alloc);
+    for word in words {
+        texts.push(Text::of(String::from_str(alloc, word)?))?;
+    }
+    let mut shelf = QuietShelf::new(Files::of(Vec::new(alloc)));
+    let mut out = sink(alloc, out)?;
+    let mut err = sink(alloc, err)?;
+    let exit = answer_alone(alloc, texts.as_slice(), &mut shelf, &mut out, &mut err);
+    Ok(Left { exit, out, err })
+}
