@@ -1,0 +1,5 @@
+pub mod LineLaws
+pub mod Givings
+pub mod Fields
+pub mod Answered
+pub mod OneReading

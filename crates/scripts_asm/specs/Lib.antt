@@ -1,0 +1,6 @@
+pub mod Ops
+pub mod Assembled
+pub mod Seen
+pub mod SeenNames
+pub mod Judging
+pub mod Image

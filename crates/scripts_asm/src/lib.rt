@@ -1,0 +1,15 @@
+//! The assembler: a text to its words and labels, or to its first fault.
+#![tactic(auto)]
+
+mod assembling;
+mod faults;
+mod judging;
+mod laws;
+mod lines;
+mod making;
+mod names;
+mod whole;
+
+pub use assembling::{AsmFault, Image, Label, Labels};
+pub use laws::one_reading;
+pub use whole::assemble;
