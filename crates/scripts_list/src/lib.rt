@@ -1,0 +1,11 @@
+//! The listing of words: each instruction as the assembler reads it.
+#![tactic(auto)]
+
+mod laws;
+mod listing;
+#[cfg(test)]
+mod tests;
+mod texts;
+
+pub use laws::{assembles_again, lists_all};
+pub use listing::list;
