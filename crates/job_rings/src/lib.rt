@@ -34,6 +34,7 @@ pub fn put_start(words: &mut Words, slot: u32, block: u32) -> u32
     requires memory { length words.old ≡ 0x400000 }
     requires slot { IsSlot START_RING slot }
     ensures wrote { words.new ≡ started words.old slot block }
+    ensures size { length words.new ≡ length words.old }
     ensures next { result ≡ next_slot START_RING slot }
 {
     let next = next_slot(START_RING, slot);
@@ -57,6 +58,7 @@ pub fn clear_done(words: &mut Words, slot: u32) -> u32
     requires memory { length words.old ≡ 0x400000 }
     requires slot { IsSlot DONE_RING slot }
     ensures wrote { words.new ≡ put_word words.old slot IDLE }
+    ensures size { length words.new ≡ length words.old }
     ensures next { result ≡ next_slot DONE_RING slot }
 {
     words.set(slot, IDLE);
