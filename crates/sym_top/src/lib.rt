@@ -12,3 +12,4 @@ mod refusal;
 
 pub use answer::answer_alone;
 pub use exit::Exit;
+pub use straight_run::{Straight, straight};
