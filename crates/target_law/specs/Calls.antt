@@ -1,0 +1,256 @@
+-- What each call of the bus makes of a target. Sources: SCSI-2 6.1 phases, 6.5 messages, 6.6.1 ABORT TAG, 6.6.3 BUS DEVICE RESET; own are
+-- which messages act and when, and that any other frees the bus, with its task away as by DISCONNECT.
+use Rattle.std.specs.Prelude.{◌≡◌, ℕ, ◌+◌, ◌-◌, ◌<◌, ◌==◌, nat_le, nat_lt, ◌&&◌, ◌||◌, not, if◌then◌else◌, Bool, true, false, List, [], ◌∷◌, ◌++◌, length, remove, slice_get, Option, Some, None, ◌⊎◌}
+use Rattle.scsi_words.specs.declared.phases.kinds.Phase.{Phase as BusPhase}
+use Rattle.scsi_words.specs.declared.phases.kinds.Phase.TheVariants as phase
+use Rattle.scsi_words.specs.declared.messages.kinds.Message.TheVariants as message
+use Rattle.scsi_words.specs.Messages.{message_code}
+use Rattle.cdb_codec.specs.declared.commands.Cdb.{Cdb}
+use Rattle.cdb_codec.specs.Blocks.{length_of, cdb_of}
+use Rattle.cdb_codec.specs.Forms.{need_of}
+use Rattle.unit_law.specs.declared.entry.LogEntry.{LogEntry}
+use Rattle.unit_law.specs.declared.entry.LogEntry.TheVariants.{Drop}
+use Rattle.unit_law.specs.Log.{tally}
+use Rattle.target_law.specs.declared.moves.Move.{Move}
+use Rattle.target_law.specs.declared.moves.Move.TheVariants.{Rogue}
+use Rattle.target_law.specs.declared.nexus.Nexus.{Nexus}
+use Rattle.target_law.specs.declared.showing.NamePart.{NamePart}
+use Rattle.target_law.specs.declared.showing.NamePart.TheVariants as part
+use Rattle.target_law.specs.declared.showing.Note.{Note}
+use Rattle.target_law.specs.declared.showing.Note.TheVariants as note
+use Rattle.target_law.specs.declared.showing.Showing.{Showing}
+use Rattle.target_law.specs.declared.showing.Showing.TheVariants.{Choosing, Hearing, Saying}
+use Rattle.target_law.specs.declared.stray.Stray.{Stray}
+use Rattle.target_law.specs.declared.stray.Stray.TheVariants as stray
+use Rattle.target_law.specs.Session.{Task, Session, acted, closed, began, says}
+use Rattle.target_law.specs.Bytes.{Connection, phase_of, byte_by, sent_by, takes_by, took_by, hears, heard_by}
+use Rattle.target_law.specs.Strays.{strayed, stray_phase, stray_byte, stray_sent, stray_takes, stray_took, stray_heard}
+use Rattle.target_law.specs.Target.{LogicalUnit, Link, Free, Greeted, Commanded, Working, Straying, Target, unit_at, with_unit, at_lun, session, goes_on, ends, linked, leaves, drops, target_reset}
+
+-- the bus is free, as far as this target goes
+abbrev pub is_free : Link → Bool
+is_free Free = true
+is_free _ = false
+
+-- the phase that a target shows; none where it isn't connected or is to choose
+abbrev pub link_phase : Link → Option BusPhase
+link_phase Free = None
+link_phase (Greeted heard) = Some phase.MsgOut
+link_phase (Commanded n taken) = Some phase.Command
+link_phase (Working c) = phase_of c.shows
+link_phase (Straying s n) = stray_phase s
+
+-- the nexus that a message or a reselection of this connection named
+abbrev pub nexus_of : Link → Option Nexus
+nexus_of Free = None
+nexus_of (Greeted heard) = None
+nexus_of (Commanded n taken) = Some n
+nexus_of (Working c) = Some (record { lun = c.lun; tag = c.task.tag })
+nexus_of (Straying s n) = n
+
+-- the target is to choose: with a task, or with units that break the rules
+abbrev pub IsToChoose : Link → Type 0
+IsToChoose (Working c) = c.shows ≡ Choosing
+IsToChoose (Straying s n) = s ≡ stray.Choosing
+IsToChoose _ = ⊥
+
+-- a command descriptor block is whole where it has the length of its first byte
+abbrev pub is_whole : List ℕ → Bool
+is_whole [] = false
+is_whole (b ∷ bs) = length (b ∷ bs) == length_of b
+
+abbrev pub whole_by : Link → Bool
+whole_by (Commanded n taken) = is_whole taken
+whole_by _ = false
+
+-- a target is selected, whose units break the rules or don't
+abbrev pub selected_by : Bool → Link
+selected_by true = Straying stray.Hearing None
+selected_by false = Greeted []
+
+-- the candidates of a unit for a reselection: its tasks that aren't connected, or one where it breaks the rules
+abbrev pub candidates_by : Bool → LogicalUnit → ℕ
+candidates_by true u = 1
+candidates_by false u = length u.tasks
+
+abbrev pub candidates : LogicalUnit → ℕ
+candidates u = candidates_by u.rig.rogue u
+
+-- a task reselects
+abbrev pub task_reselected : Target → (lun n : ℕ) → LogicalUnit → Option Task → Target
+task_reselected t lun n u None = t
+task_reselected t lun n u (Some k) = record {
+  units = with_unit t.units lun (record u { tasks = remove u.tasks n });
+  link = Working (record { lun = lun; reselected = true; heard = []; task = k; shows = says (note.Name part.Lun) });
+}
+
+abbrev pub reselected_by : Bool → Target → (lun n tag : ℕ) → LogicalUnit → Target
+reselected_by true t lun n tag u = linked t (Straying (stray.Naming part.Lun false) (Some (record { lun = lun; tag = tag })))
+reselected_by false t lun n tag u = task_reselected t lun n u (slice_get u.tasks n)
+
+-- the n-th candidate of a unit reselects, by rising tag from 0; where the unit breaks the rules, with this tag
+unfoldable pub target_reselected : Target → (lun n tag : ℕ) → Target
+target_reselected t lun n tag = at_lun t lun (λ u. reselected_by u.rig.rogue t lun n tag u)
+
+abbrev pub link_or_free : Option Stray → Option Nexus → Link
+link_or_free None n = Free
+link_or_free (Some s) n = Straying s n
+
+abbrev pub strays : Target → Move → Option Nexus → Target
+strays t (Rogue word) n = linked t (link_or_free (strayed word) n)
+strays t m n = t
+
+abbrev pub acted_by : Link → Target → Move → Target
+acted_by (Working c) t m = at_lun t c.lun (λ u. goes_on t c u (acted m (session u c)))
+acted_by (Straying s n) t m = strays t m n
+acted_by l t m = t
+
+-- the target after its move
+unfoldable pub target_acted : Target → Move → Target
+target_acted t m = acted_by t.link t m
+
+-- ATN is asserted while a task is to choose: it shows MSG_OUT
+abbrev pub asked_by : Link → Link
+asked_by (Working c) = Working (record c { heard = []; shows = Hearing })
+asked_by l = l
+
+-- the byte that the target has for the initiator, if it has one, and the link after it
+abbrev pub link_byte : Link → Option ℕ
+link_byte (Working c) = byte_by c.shows c.task c.lun
+link_byte (Straying s n) = stray_byte s n
+link_byte _ = None
+
+abbrev pub link_sent : Link → Link
+link_sent (Working c) = Working (sent_by c.shows c)
+link_sent (Straying s n) = Straying (stray_sent s) n
+link_sent l = l
+
+-- where there is no byte, the link stays
+abbrev pub sent_if : Option ℕ → Link → Link
+sent_if (Some b) l = link_sent l
+sent_if None l = l
+
+-- whether the target takes a byte, and the link after it
+abbrev pub link_takes : Link → Bool
+link_takes Free = false
+link_takes (Greeted heard) = true
+link_takes (Commanded n taken) = not (is_whole taken)
+link_takes (Working c) = takes_by c.shows
+link_takes (Straying s n) = stray_takes s
+
+abbrev pub link_took : Link → ℕ → Link
+link_took Free b = Free
+link_took (Greeted heard) b = Greeted (hears heard b)
+link_took (Commanded n taken) b = Commanded n (taken ++ b ∷ [])
+link_took (Working c) b = Working (took_by c.shows c b)
+link_took (Straying s n) b = Straying (stray_took s b) n
+
+abbrev pub took_if : Bool → Link → ℕ → Link
+took_if true l b = link_took l b
+took_if false l b = l
+
+-- the messages that act: IDENTIFY with the disconnect privilege, SIMPLE QUEUE TAG and a tag; BUS DEVICE RESET; ABORT TAG; and any other
+pub data Heard : Type 0 where
+  Names : Nexus → Heard
+  Resets : Heard
+  AbortsTag : Heard
+  Other : Heard
+
+abbrev pub is_identify : ℕ → Bool
+is_identify a = nat_le (message_code (message.Identify true 0)) a && nat_le a (message_code (message.Identify true 7))
+
+abbrev pub of_one : ℕ → Heard
+of_one a = if a == message_code message.DeviceReset then Resets else (if a == message_code message.AbortTag then AbortsTag else Other)
+
+abbrev pub of_three : (a b tag : ℕ) → Heard
+of_three a b tag =
+    if is_identify a && b == message_code message.SimpleTag then Names (record { lun = a - message_code (message.Identify true 0); tag = tag }) else Other
+
+abbrev pub message_of : List ℕ → Heard
+message_of (a ∷ []) = of_one a
+message_of (a ∷ b ∷ c ∷ []) = of_three a b c
+message_of _ = Other
+
+-- after a selection: a nexus of a unit that is there leads to COMMAND
+abbrev pub greeted : Target → Heard → Target
+greeted t (Names n) = at_lun (linked t Free) n.lun (λ u. linked t (Commanded n []))
+greeted t Resets = target_reset t
+greeted t AbortsTag = linked t Free
+greeted t Other = linked t Free
+
+-- with a task: ABORT TAG after a reselection drops it
+abbrev pub aborted : Bool → Target → Connection → LogicalUnit → Target
+aborted true t c u = record { units = with_unit t.units c.lun (drops u c.task); link = Free }
+aborted false t c u = leaves t c u
+
+abbrev pub told : Heard → Target → Connection → Target
+told Resets t c = target_reset t
+told AbortsTag t c = at_lun t c.lun (aborted c.reselected t c)
+told (Names n) t c = at_lun t c.lun (leaves t c)
+told Other t c = at_lun t c.lun (leaves t c)
+
+abbrev pub messaged_by : Link → Target → Target
+messaged_by (Greeted heard) t = greeted t (message_of heard)
+messaged_by (Working c) t = told (message_of c.heard) t c
+messaged_by (Straying s n) t = linked t (Straying stray.Choosing n)
+messaged_by l t = t
+
+-- ATN is released while MSG_OUT is shown: the message is whole, and acts
+unfoldable pub target_messaged : Target → Target
+target_messaged t = messaged_by t.link t
+
+-- ACK is released after a message byte of a task
+abbrev pub noted_by : Note → Target → Connection → Target
+noted_by (note.Complete v) t c = at_lun t c.lun (λ u. ends t c u (closed v (session u c)))
+noted_by note.LeaveNow t c = at_lun t c.lun (leaves t c)
+noted_by n t c = linked t (Working (heard_by n c))
+
+abbrev pub shown_acked : Showing → Target → Connection → Target
+shown_acked (Saying n sent) t c = noted_by n t c
+shown_acked _ t c = t
+
+abbrev pub acked_by : Link → Target → Target
+acked_by (Working c) t = shown_acked c.shows t c
+acked_by (Straying s n) t = linked t (Straying (stray_heard s) n)
+acked_by l t = t
+
+unfoldable pub target_acked : Target → Target
+target_acked t = acked_by t.link t
+
+-- a message byte was sent that isn't acknowledged yet
+abbrev pub WaitsForAck : Link → Type 0
+WaitsForAck (Working c) = (n : Note) × (c.shows ≡ Saying n true)
+WaitsForAck (Straying s n) = ((b : ℕ) × (s ≡ stray.Saying b true)) ⊎ ((p : NamePart) × (s ≡ stray.Naming p true))
+WaitsForAck _ = ⊥
+
+-- a task of the unit has the tag
+abbrev pub has_tag : List Task → ℕ → Bool
+has_tag [] tag = false
+has_tag (k ∷ ks) tag = k.tag == tag || has_tag ks tag
+
+-- the unit's log has End of the ticket
+abbrev pub has_ended : List LogEntry → ℕ → Bool
+has_ended log ticket = nat_lt 0 (tally ticket log).ends
+
+-- a command makes a task of its live ticket, where the unit has no other task of the tag, and the command needs at most 65,536 bytes
+abbrev pub begun : Target → Nexus → Cdb → LogicalUnit → ℕ → Target
+begun t n c u ticket =
+    if has_tag u.tasks n.tag || nat_lt 65536 (need_of c).bytes then linked t Free
+    else linked t (Working (record {
+      lun = n.lun;
+      reselected = false;
+      heard = [];
+      task = began n.tag ticket c u.rig.disconnects (has_ended u.log ticket);
+      shows = Choosing;
+    }))
+
+abbrev pub begun_with : Target → Nexus → Cdb → Option ℕ → Target
+begun_with t n c None = linked t Free
+begun_with t n c (Some ticket) = at_lun t n.lun (λ u. begun t n c u ticket)
+
+abbrev pub begun_by : Link → Target → Option ℕ → Target
+begun_by (Commanded n taken) t ticket = begun_with t n (cdb_of taken) ticket
+begun_by l t ticket = t
+
+unfoldable pub target_begun : Target → Option ℕ → Target
+target_begun t ticket = begun_by t.link t ticket
