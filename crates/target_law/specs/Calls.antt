@@ -1,6 +1,7 @@
 -- What each call of the bus makes of a target. Sources: SCSI-2 6.1 phases, 6.5 messages, 6.6.1 ABORT TAG, 6.6.3 BUS DEVICE RESET; own are
 -- which messages act and when, and that any other frees the bus, with its task away as by DISCONNECT.
 use Rattle.std.specs.Prelude.{◌≡◌, ℕ, ◌+◌, ◌-◌, ◌<◌, ◌==◌, nat_le, nat_lt, ◌&&◌, ◌||◌, not, if◌then◌else◌, Bool, true, false, List, [], ◌∷◌, ◌++◌, length, remove, slice_get, Option, Some, None, ◌⊎◌}
+use Rattle.std.specs.List.{list_any}
 use Rattle.scsi_words.specs.declared.phases.kinds.Phase.{Phase as BusPhase}
 use Rattle.scsi_words.specs.declared.phases.kinds.Phase.TheVariants as phase
 use Rattle.scsi_words.specs.declared.messages.kinds.Message.TheVariants as message
@@ -63,10 +64,21 @@ abbrev pub whole_by : Link → Bool
 whole_by (Commanded n taken) = is_whole taken
 whole_by _ = false
 
--- a target is selected, whose units break the rules or don't
+-- a unit of the target breaks the rules, and so do all others then
+abbrev pub slot_is_rogue : Option LogicalUnit → Bool
+slot_is_rogue None = false
+slot_is_rogue (Some u) = u.rig.rogue
+
+unfoldable pub is_rogue : Target → Bool
+is_rogue t = list_any slot_is_rogue t.units
+
+-- a target is selected: it shows MSG_OUT
 abbrev pub selected_by : Bool → Link
 selected_by true = Straying stray.Hearing None
 selected_by false = Greeted []
+
+abbrev pub target_selected : Target → Target
+target_selected t = linked t (selected_by (is_rogue t))
 
 -- the candidates of a unit for a reselection: its tasks that aren't connected, or one where it breaks the rules
 abbrev pub candidates_by : Bool → LogicalUnit → ℕ

@@ -1,11 +1,51 @@
--- A lawful move with the entries that it logs. Source: own.
-use Rattle.std.specs.Prelude.{◌≡◌, ℕ, List, ◌++◌}
+-- The lawful moves of a target that is to choose, with the entries that they log, and which of them a word names. Source: own.
+use Rattle.std.specs.Prelude.{◌≡◌, ℕ, List, [], ◌++◌, Option, Some, None}
 use Rattle.unit_law.specs.declared.entry.LogEntry.{LogEntry}
+use Rattle.unit_law.specs.Log.{tally}
 use Rattle.target_law.specs.declared.moves.Move.{Move}
+use Rattle.target_law.specs.declared.moves.Move.TheVariants.{Rogue}
+use Rattle.target_law.specs.declared.showing.Showing.TheVariants.{Choosing}
+use Rattle.target_law.specs.declared.stray.Stray.TheVariants as stray
 use Rattle.target_law.specs.Session.{Session, Can, acted}
+use Rattle.target_law.specs.Choice.{Names}
+use Rattle.target_law.specs.Bytes.{Connection}
+use Rattle.target_law.specs.Target.{LogicalUnit, Link, Free, Greeted, Commanded, Working, Straying, Target, unit_at, session}
 
 -- from one session a move leads to another, and logs these entries
 pub record Lawful (limit refused : ℕ) (old : Session) (m : Move) (new : Session) (entries : List LogEntry) : Type 0 where
   pub lawful : Can m old limit refused
   pub after : new ≡ acted m old
   pub logged : new.log ≡ old.log ++ entries
+
+-- there is a unit, and this holds of it
+abbrev pub IsThere : Option LogicalUnit → (LogicalUnit → Type 0) → Type 0
+IsThere (Some u) P = P u
+IsThere None P = ⊥
+
+-- how often the unit refused the ticket so far
+abbrev pub refused_so_far : LogicalUnit → ℕ → ℕ
+refused_so_far u ticket = (tally ticket u.log).refusals
+
+abbrev pub CanOf : LogicalUnit → Connection → Move → Type 0
+CanOf u c m = Can m (session u c) u.rig.refusals (refused_so_far u c.task.ticket)
+
+abbrev pub NamesOf : LogicalUnit → Connection → ℕ → Move → Type 0
+NamesOf u c word m = Names (session u c) u.rig.refusals (refused_so_far u c.task.ticket) word m
+
+-- a target that is to choose may make this move; where its units break the rules, any move by a word
+abbrev pub MayBy : Link → Target → Move → Type 0
+MayBy (Working c) t m = (c.shows ≡ Choosing) × IsThere (unit_at t.units c.lun) (λ u. CanOf u c m)
+MayBy (Straying s n) t m = (s ≡ stray.Choosing) × ((word : ℕ) × (m ≡ Rogue word))
+MayBy _ t m = ⊥
+
+abbrev pub May : Target → Move → Type 0
+May t m = MayBy t.link t m
+
+-- the word names this move of a target that is to choose
+abbrev pub NamedBy : Link → Target → ℕ → Move → Type 0
+NamedBy (Working c) t word m = IsThere (unit_at t.units c.lun) (λ u. NamesOf u c word m)
+NamedBy (Straying s n) t word m = m ≡ Rogue word
+NamedBy _ t word m = ⊥
+
+abbrev pub Named : Target → ℕ → Move → Type 0
+Named t word m = NamedBy t.link t word m

@@ -53,16 +53,6 @@ adds_unit units r = with_unit units r.lun (unit_opened r)
 unfoldable pub target_opened : List RigUnit → Target
 target_opened rs = record { units = fold adds_unit (replicate 8 None) rs; link = Free }
 
--- a unit of the target is rogue, and then all are; the same of absent ones
-abbrev pub HasUnit : (RigUnit → Bool) → Target → Type 0
-HasUnit test t = (lun : ℕ) × ((u : LogicalUnit) × (unit_at t.units lun ≡ Some u) × (test u.rig ≡ true))
-
-abbrev pub IsRogue : Target → Type 0
-IsRogue t = HasUnit (λ (r : RigUnit). r.rogue) t
-
-abbrev pub IsAbsent : Target → Type 0
-IsAbsent t = HasUnit (λ (r : RigUnit). r.absent) t
-
 -- the session of a connection, and the unit and the connection after it
 abbrev pub session : LogicalUnit → Connection → Session
 session u c = record { unit = u.plain; log = u.log; task = c.task; shows = c.shows }
