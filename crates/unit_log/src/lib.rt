@@ -1,0 +1,10 @@
+//! The log of one logical unit: room is reserved ahead, an entry then takes no memory, and what a ticket's
+//! entries come to is read without going over the log.
+#![tactic(auto)]
+
+mod journal;
+mod notes;
+#[cfg(test)]
+mod tests;
+
+pub use journal::UnitLog;
