@@ -1,0 +1,5 @@
+pub mod Blocks
+pub mod ChainLaws
+pub mod FindingLaws
+pub mod LaidLaws
+pub mod Laying
