@@ -3,7 +3,7 @@
 ghost use Rattle.std.specs.Prelude.{◌≡◌, ◌*◌, ◌≤◌, true, min, [], ◌++◌, length, take, drop};
 ghost use Rattle.cdb_codec.specs.Forms.{need_of};
 ghost use Rattle.plain_lun.specs.Performing.{perform, wants_now, good, checked, sensed, sense_now, holds, inquiry_data, capacity_data, transferred, stored, blocks_at};
-ghost use Rattle.scsi_words.specs.declared.phases.kinds.Direction.TheVariants.{Out};
+ghost use Rattle.scsi_words.specs.declared.phases.kinds.Direction.TheVariants.{In, Out};
 ghost use Rattle.scsi_words.specs.declared.statuses.kinds.Status.TheVariants.{Good, Check};
 
 use crate::lun::{BLOCK_BYTES, Lun};
@@ -55,14 +55,30 @@ impl Lun {
         Need { direction, bytes }
     }
 
+    /// The status with which the unit would answer this command now.
+    #[tactic(auto, unfolding(crate::specs::Performing::perform))]
+    pub fn status_now(&self, c: &Cdb) -> Status
+        ensures { result ≡ (perform self.now c.now []).answer.status }
+    {
+        match *c {
+            Cdb::Inquiry { .. } | Cdb::RequestSense { .. } => Status::Good,
+            _ if self.attention => Status::Check,
+            Cdb::TestUnitReady | Cdb::ReadCapacity => Status::Good,
+            Cdb::Read { lba, blocks, .. } if self.holds(lba, blocks) => Status::Good,
+            Cdb::Write { lba, blocks, .. } if self.holds(lba, blocks) => Status::Good,
+            _ => Status::Check,
+        }
+    }
+
     /// Performs a command. A write stores `received`; data go to the front of `out`, and the rest of
     /// `out` stays.
     ///
-    /// Condition: `out` has at least as many bytes as `wants` says, and for a WRITE `received` has just
-    /// as many.
+    /// Condition: for a command that sends, `out` has at least as many bytes as `wants` says, and for a
+    /// WRITE `received` has just as many.
     #[tactic(auto, unfolding(crate::specs::Performing::perform, crate::specs::Performing::wants_now))]
     pub fn perform(&mut self, c: &Cdb, received: &[u8], out: &mut [u8]) -> Answer
-        requires room { (wants_now self.old c.now).bytes ≤ length out.old }
+        requires room { (need_of c.now).direction ≡ In →
+            (wants_now self.old c.now).bytes ≤ length out.old }
         requires whole { (need_of c.now).direction ≡ Out →
             length received.now ≡ (wants_now self.old c.now).bytes }
         ensures unit { self.new ≡ (perform self.old c.now received.now).unit }

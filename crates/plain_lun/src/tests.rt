@@ -24,7 +24,10 @@ fn run(rt: &impl Abort, unit: &mut Lun, cdb: &[u8], out: &mut [u8]) -> Answer {
     if need(&command).direction == Direction::Out {
         assert_eq!(rt; received.len(), wants.bytes as usize);
     }
-    unit.perform(&command, received, out)
+    let foreseen = unit.status_now(&command);
+    let answer = unit.perform(&command, received, out);
+    assert_eq!(rt; answer.status, foreseen);
+    answer
 }
 
 /// The key and the additional code of the sense that the unit would give.
