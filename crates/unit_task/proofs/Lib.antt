@@ -1,0 +1,4 @@
+pub mod Readiness
+pub mod Keeping
+pub mod Ends
+pub mod Received
