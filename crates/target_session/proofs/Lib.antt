@@ -1,0 +1,5 @@
+pub mod Offers
+pub mod Places
+pub mod Acts
+pub mod Closes
+pub mod Hearing

@@ -1,0 +1,103 @@
+//! What the messages of a connected task do when ACK is released after them.
+
+ghost use Rattle.std.specs.Prelude.{◌≡◌, ◌<◌, length};
+ghost use Rattle.unit_core.specs.declared.Core.{Core};
+ghost use Rattle.target_law.specs.Session.{Task, closed, says};
+ghost use Rattle.target_law.specs.Sound.{Ends, IsSound, IsSoundTask, IsWaiting};
+ghost use Rattle.target_session.specs.Sessions.{session_of, core_after, heard_on, closed_on, end_entry};
+
+use crate::connection::Connection;
+use target_law::{NamePart, Note, Showing, Verdict};
+use unit_core::Core;
+use unit_law::LogEntry;
+
+impl Connection {
+    /// ACK is released after the message that it shows. COMMAND COMPLETE and DISCONNECT do nothing here: after them
+    /// the task leaves the connection.
+    pub fn go_on(&mut self)
+        ensures connection { self.new ≡ heard_on self.old.shows self.old }
+        ensures sound { (core : Core) → IsSound (session_of core self.old) → IsSound (session_of core self.new) }
+    {
+        self.hear();
+    }
+
+    fn hear(&mut self)
+        ensures { self.new ≡ heard_on self.old.shows self.old }
+    {
+        let Showing::Saying { note, .. } = self.shows else {
+            return;
+        };
+        self.shows = match note {
+            Note::Name(NamePart::Lun) => says(Note::Name(NamePart::Queue)),
+            Note::Name(NamePart::Queue) => says(Note::Name(NamePart::Tag)),
+            Note::Name(NamePart::Tag) => Showing::Choosing,
+            Note::SaveThenLeave => {
+                self.task.save();
+                says(Note::LeaveNow)
+            }
+            Note::SaveNow => {
+                self.task.save();
+                Showing::Choosing
+            }
+            Note::RestoreNow => {
+                self.task.restore();
+                Showing::Choosing
+            }
+            Note::Complete(_) | Note::LeaveNow => return,
+        };
+    }
+
+    /// ACK is released after COMMAND COMPLETE: the unit performs what it hasn't performed, and logs Refuse, End or
+    /// Sense. Where another message or none is shown, nothing changes.
+    ///
+    /// Condition: the log has room for an entry.
+    pub fn close(&self, core: &mut Core)
+        requires sound { IsSound (session_of core.old self.now) }
+        requires room { length core.old.log.entries < core.old.log.room }
+        ensures core { core.new ≡ core_after core.old (closed_on self.now.shows (session_of core.old self.now)) }
+        ensures others { (k : Task) → IsWaiting core.old.lun k → IsWaiting core.new.lun k }
+    {
+        if let Showing::Saying {
+            note: Note::Complete(verdict),
+            ..
+        } = self.shows
+        {
+            self.close_by(core, verdict);
+        }
+    }
+
+    #[tactic(auto, unfolding(target_law::specs::Session::closed))]
+    fn close_by(&self, core: &mut Core, verdict: Verdict)
+        requires sound { IsSoundTask core.old.lun self.now.task }
+        requires ends { Ends verdict (session_of core.old self.now) }
+        requires room { length core.old.log.entries < core.old.log.room }
+        ensures core { core.new ≡ core_after core.old (closed verdict (session_of core.old self.now)) }
+        ensures others { (k : Task) → IsWaiting core.old.lun k → IsWaiting core.new.lun k }
+    {
+        let ticket = self.task.ticket();
+        match verdict {
+            Verdict::Refused(status) => core.log.push(LogEntry::Refuse(ticket, status)),
+            Verdict::Answered(_) => {
+                self.task.end(&mut core.lun);
+                core.log.push(self.end_entry());
+            }
+        }
+    }
+
+    fn end_entry(&self) -> LogEntry
+        ensures { result ≡ end_entry self.now.task.senses self.now.task.ticket }
+    {
+        if self.task.senses() {
+            LogEntry::Sense(self.task.ticket())
+        } else {
+            LogEntry::End(self.task.ticket())
+        }
+    }
+}
+
+/// It shows a message byte that isn't sent yet.
+fn says(note: Note) -> Showing
+    ensures { result ≡ says note }
+{
+    Showing::Saying { note, sent: false }
+}
