@@ -1,0 +1,132 @@
+-- The calls of one command, one after another, on a bus whose target has the one unit.
+use Rattle.std.proofs.Common.{◌≡◌, ℕ, ◌/◌, ◌%◌, ◌≤◌, Bool, true, false, List, [], ◌∷◌, ◌++◌, length, get_or, refl, ap, ◌∙◌, Option, Some}
+use Rattle.scsi_words.specs.declared.phases.kinds.Phase.{Phase as BusPhase}
+use Rattle.scsi_words.specs.declared.phases.kinds.Phase.TheVariants.{Command, MsgOut, MsgIn, Status as StatusPhase}
+use Rattle.scsi_words.specs.Statuses.{status_code}
+use Rattle.chip_step.specs.Event.{Event, Phase, ByteIn, ByteOut, SetAtn, ClearAck, Leave}
+use Rattle.target_law.specs.declared.showing.Note.TheVariants.{Complete}
+use Rattle.target_law.specs.declared.showing.Showing.TheVariants.{Telling, Saying}
+use Rattle.target_law.specs.declared.showing.Verdict.{Verdict}
+use Rattle.target_law.specs.Session.{Task, Session, closed}
+use Rattle.target_law.specs.Bytes.{status_told, hears}
+use Rattle.target_law.specs.Target.{LogicalUnit, Free, Greeted, Commanded, Target, session, unit_after}
+use Rattle.target_law.specs.Calls.{is_whole, is_rogue, target_selected, target_messaged, target_acked}
+use Rattle.straight_run.specs.Reading.{Answers, asks, outs, beginning}
+use Rattle.straight_run.specs.Opening.{cdb}
+use Rattle.one_target.specs.Bus.{OneBus, moves, all_fit, if_fits, with_room, becomes, after_atn, after_ack}
+use Rattle.one_target.proofs.Slots.{slots, unit_at-slots, with_unit-slots, slots-fit}
+use Rattle.one_target.proofs.Asking.{selects, sets_atn, clears_ack, takes, gives, leaves, asks_shown}
+use Rattle.one_target.proofs.Choosing.{connected, working}
+use Rattle.one_target.proofs.Carrying.{bus}
+
+-- COMMAND COMPLETE is acknowledged
+acked-working : (u : LogicalUnit) (k : Task) (v : Verdict) (s : Session) → closed v (session u (connected k (Saying (Complete v) true))) ≡ s → target_acked (working u k (Saying (Complete v) true)) ≡ record { units = slots (unit_after u s); link = Free }
+unfolding target_acked
+acked-working u k v s e = rw (unit_at-slots u, e, with_unit-slots u (unit_after u s)) refl
+
+-- IDENTIFY and SIMPLE QUEUE TAG 0 lead to COMMAND
+
+messaged-slots : (u : LogicalUnit) → target_messaged (record { units = slots u; link = Greeted (0xc0 ∷ 0x20 ∷ 0 ∷ []) }) ≡ record { units = slots u; link = Commanded (record { lun = 0; tag = 0 }) [] }
+unfolding target_messaged
+messaged-slots u = rw (unit_at-slots u) refl
+
+selected-slots : (u : LogicalUnit) → u.rig.rogue ≡ false → target_selected (record { units = slots u; link = Free }) ≡ record { units = slots u; link = Greeted [] }
+unfolding is_rogue
+selected-slots u e = rw e refl
+
+-- an acknowledged message byte of a task
+after_ack-working : (rooms : List ℕ) (u : LogicalUnit) (k : Task) (v : Verdict) (s : Session) (asked : Option BusPhase) → closed v (session u (connected k (Saying (Complete v) true))) ≡ s → all_fit (slots (unit_after u s)) rooms ≡ true →
+    after_ack (record { target = working u k (Saying (Complete v) true); rooms = rooms; atn = false; ack = true; asked = asked }) ≡ bus rooms (record { units = slots (unit_after u s); link = Free }) asked
+after_ack-working rooms u k v s asked e f =
+    let b : OneBus = record { target = working u k (Saying (Complete v) true); rooms = rooms; atn = false; ack = true; asked = asked } in
+    let after : Target = record { units = slots (unit_after u s); link = Free } in
+    let g : with_room rooms b.target (target_acked b.target) ≡ with_room rooms b.target after = ap (λ (x : Target). with_room rooms b.target x) (acked-working u k v s e) in
+    let h : with_room rooms b.target after ≡ after = ap (λ (x : Bool). if_fits x b.target after) f in
+    ap (λ (x : Target). record (becomes b x) { ack = false }) (g ∙ h)
+
+after_atn-slots : (rooms : List ℕ) (u : LogicalUnit) (asked : Option BusPhase) → all_fit (slots u) rooms ≡ true →
+    after_atn false (record { target = record { units = slots u; link = Greeted (0xc0 ∷ 0x20 ∷ 0 ∷ []) }; rooms = rooms; atn = true; ack = false; asked = asked })
+    ≡ bus rooms (record { units = slots u; link = Commanded (record { lun = 0; tag = 0 }) [] }) asked
+after_atn-slots rooms u asked f =
+    let b : OneBus = record { target = record { units = slots u; link = Greeted (0xc0 ∷ 0x20 ∷ 0 ∷ []) }; rooms = rooms; atn = true; ack = false; asked = asked } in
+    let after : Target = record { units = slots u; link = Commanded (record { lun = 0; tag = 0 }) [] } in
+    let g : with_room rooms b.target (target_messaged b.target) ≡ with_room rooms b.target after = ap (λ (x : Target). with_room rooms b.target x) (messaged-slots u) in
+    let h : with_room rooms b.target after ≡ after = ap (λ (x : Bool). if_fits x b.target after) f in
+    ap (λ (x : Target). record (becomes b x) { atn = false }) (g ∙ h)
+
+-- what is left once the status is shown
+abbrev pub completing : List Event
+completing = ByteIn (Some 0) ∷ ClearAck ∷ Leave 0 true ∷ []
+
+abbrev pub telling : ℕ → List Event
+telling status = ByteIn (Some status) ∷ asks MsgIn completing
+
+module _ (P : OneBus → Type 0) (rooms : List ℕ) (roomy : 8 ≤ get_or rooms 0 0) where
+  pub tells : (u : LogicalUnit) (k : Task) (v : Verdict) (s : Session) → closed v (session u (connected k (Saying (Complete v) true))) ≡ s → length s.log ≤ 8 →
+      P (bus rooms (record { units = slots (unit_after u s); link = Free }) (Some MsgIn)) →
+      Answers moves (telling (status_code (status_told v))) P (bus rooms (working u k (Telling v)) (Some StatusPhase))
+  tells u k v s e l p =
+      let f : all_fit (slots (unit_after u s)) rooms ≡ true = slots-fit (unit_after u s) rooms roomy l in
+      let free : OneBus = bus rooms (record { units = slots (unit_after u s); link = Free }) (Some MsgIn) in
+      let acked : OneBus = record { target = working u k (Saying (Complete v) true); rooms = rooms; atn = false; ack = true; asked = Some MsgIn } in
+      let left : Answers moves (Leave 0 true ∷ []) P free = leaves P free [] refl p in
+      let left' : Answers moves (Leave 0 true ∷ []) P (after_ack acked) = rw (after_ack-working rooms u k v s (Some MsgIn) e f) left in
+      gives P (status_code (status_told v)) (bus rooms (working u k (Telling v)) (Some StatusPhase)) (asks MsgIn completing) refl refl
+      (clears_ack P (bus rooms (working u k (Saying (Complete v) false)) (Some StatusPhase)) (Phase 0 (Some MsgIn) ∷ completing)
+      (asks_shown P MsgIn (bus rooms (working u k (Saying (Complete v) false)) (Some StatusPhase)) completing (record { bound = refl; begun = refl; phase = refl })
+      (gives P 0 (bus rooms (working u k (Saying (Complete v) false)) (Some MsgIn)) (ClearAck ∷ Leave 0 true ∷ []) refl refl
+      (clears_ack P acked (Leave 0 true ∷ []) left'))))
+
+  -- a byte of COMMAND
+  commands : (u : LogicalUnit) (taken : List ℕ) (byte : ℕ) (es : List Event) → is_whole taken ≡ false →
+      Answers moves es P (bus rooms (record { units = slots u; link = Commanded (record { lun = 0; tag = 0 }) (taken ++ byte ∷ []) }) (Some Command)) →
+      Answers moves (ByteOut byte true ∷ es) P (bus rooms (record { units = slots u; link = Commanded (record { lun = 0; tag = 0 }) taken }) (Some Command))
+  commands u taken byte es w a = takes P byte (bus rooms (record { units = slots u; link = Commanded (record { lun = 0; tag = 0 }) taken }) (Some Command)) es (rw w refl) a
+
+  command_goes : (u : LogicalUnit) (lba : ℕ) (es : List Event) → Answers moves es P (bus rooms (record { units = slots u; link = Commanded (record { lun = 0; tag = 0 }) (cdb lba) }) (Some Command)) →
+      Answers moves (outs (cdb lba) es) P (bus rooms (record { units = slots u; link = Commanded (record { lun = 0; tag = 0 }) [] }) (Some Command))
+  command_goes u lba es a =
+      let b3 : ℕ = lba / 16777216 % 256 in
+      let b2 : ℕ = lba / 65536 % 256 in
+      let b1 : ℕ = lba / 256 % 256 in
+      let b0 : ℕ = lba % 256 in
+      commands u [] 0x28 (outs (0 ∷ b3 ∷ b2 ∷ b1 ∷ b0 ∷ 0 ∷ 0 ∷ 1 ∷ 0 ∷ []) es) refl
+      (commands u (0x28 ∷ []) 0 (outs (b3 ∷ b2 ∷ b1 ∷ b0 ∷ 0 ∷ 0 ∷ 1 ∷ 0 ∷ []) es) refl
+      (commands u (0x28 ∷ 0 ∷ []) b3 (outs (b2 ∷ b1 ∷ b0 ∷ 0 ∷ 0 ∷ 1 ∷ 0 ∷ []) es) refl
+      (commands u (0x28 ∷ 0 ∷ b3 ∷ []) b2 (outs (b1 ∷ b0 ∷ 0 ∷ 0 ∷ 1 ∷ 0 ∷ []) es) refl
+      (commands u (0x28 ∷ 0 ∷ b3 ∷ b2 ∷ []) b1 (outs (b0 ∷ 0 ∷ 0 ∷ 1 ∷ 0 ∷ []) es) refl
+      (commands u (0x28 ∷ 0 ∷ b3 ∷ b2 ∷ b1 ∷ []) b0 (outs (0 ∷ 0 ∷ 1 ∷ 0 ∷ []) es) refl
+      (commands u (0x28 ∷ 0 ∷ b3 ∷ b2 ∷ b1 ∷ b0 ∷ []) 0 (outs (0 ∷ 1 ∷ 0 ∷ []) es) refl
+      (commands u (0x28 ∷ 0 ∷ b3 ∷ b2 ∷ b1 ∷ b0 ∷ 0 ∷ []) 0 (outs (1 ∷ 0 ∷ []) es) refl
+      (commands u (0x28 ∷ 0 ∷ b3 ∷ b2 ∷ b1 ∷ b0 ∷ 0 ∷ 0 ∷ []) 1 (outs (0 ∷ []) es) refl
+      (commands u (0x28 ∷ 0 ∷ b3 ∷ b2 ∷ b1 ∷ b0 ∷ 0 ∷ 0 ∷ 1 ∷ []) 0 es refl a)))))))))
+
+  -- a byte of the message
+  messages : (u : LogicalUnit) (heard : List ℕ) (byte : ℕ) (es : List Event) →
+      Answers moves es P (record { target = record { units = slots u; link = Greeted (hears heard byte) }; rooms = rooms; atn = true; ack = false; asked = Some MsgOut }) →
+      Answers moves (ByteOut byte true ∷ es) P (record { target = record { units = slots u; link = Greeted heard }; rooms = rooms; atn = true; ack = false; asked = Some MsgOut })
+  messages u heard byte es a = takes P byte (record { target = record { units = slots u; link = Greeted heard }; rooms = rooms; atn = true; ack = false; asked = Some MsgOut }) es refl a
+
+  -- from the free bus to the whole descriptor block
+  pub begins_with : (u : LogicalUnit) (lba : ℕ) (asked : Option BusPhase) (es : List Event) → u.rig.rogue ≡ false → length u.log ≤ 8 →
+      Answers moves es P (bus rooms (record { units = slots u; link = Commanded (record { lun = 0; tag = 0 }) (cdb lba) }) (Some Command)) →
+      Answers moves (beginning lba es) P (bus rooms (record { units = slots u; link = Free }) asked)
+  begins_with u lba asked es quiet l a =
+      let greeted : List ℕ → Option BusPhase → OneBus = λ heard phase. record { target = record { units = slots u; link = Greeted heard }; rooms = rooms; atn = true; ack = false; asked = phase } in
+      let told : OneBus = bus rooms (record { units = slots u; link = Commanded (record { lun = 0; tag = 0 }) [] }) (Some MsgOut) in
+      let commanding : List Event = outs (cdb lba) es in
+      let a1 : Answers moves (asks Command commanding) P told =
+      clears_ack P told (Phase 0 (Some Command) ∷ commanding) (asks_shown P Command told commanding (record { bound = refl; begun = refl; phase = refl }) (command_goes u lba es a)) in
+      let a2 : Answers moves (asks Command commanding) P (after_atn false (greeted (0xc0 ∷ 0x20 ∷ 0 ∷ []) (Some MsgOut))) = rw (after_atn-slots rooms u (Some MsgOut) (slots-fit u rooms roomy l)) a1 in
+      let a3 : Answers moves (SetAtn false ∷ asks Command commanding) P (greeted (0xc0 ∷ 0x20 ∷ 0 ∷ []) (Some MsgOut)) = sets_atn P false (greeted (0xc0 ∷ 0x20 ∷ 0 ∷ []) (Some MsgOut)) (asks Command commanding) a2 in
+      let telling_on : List Event = SetAtn false ∷ asks Command commanding in
+      let a4 : Answers moves (outs (0xc0 ∷ 0x20 ∷ 0 ∷ []) telling_on) P (greeted [] (Some MsgOut)) =
+      messages u [] 0xc0 (outs (0x20 ∷ 0 ∷ []) telling_on) (messages u (0xc0 ∷ []) 0x20 (outs (0 ∷ []) telling_on) (messages u (0xc0 ∷ 0x20 ∷ []) 0 telling_on a3)) in
+      let speaking : List Event = outs (0xc0 ∷ 0x20 ∷ 0 ∷ []) telling_on in
+      let a5 : Answers moves (asks MsgOut speaking) P (greeted [] asked) =
+      clears_ack P (greeted [] asked) (Phase 0 (Some MsgOut) ∷ speaking) (asks_shown P MsgOut (greeted [] asked) speaking (record { bound = refl; begun = refl; phase = refl }) a4) in
+      let quiet_greeted : OneBus = bus rooms (record { units = slots u; link = Greeted [] }) asked in
+      let a6 : Answers moves (SetAtn true ∷ asks MsgOut speaking) P quiet_greeted = sets_atn P true quiet_greeted (asks MsgOut speaking) a5 in
+      let free : OneBus = bus rooms (record { units = slots u; link = Free }) asked in
+      let a7 : Answers moves (SetAtn true ∷ asks MsgOut speaking) P (record free { target = target_selected free.target }) = rw (selected-slots u quiet) a6 in
+      selects P free (SetAtn true ∷ asks MsgOut speaking) refl a7

@@ -1,0 +1,11 @@
+pub mod Slots
+pub mod Asking
+pub mod Choosing
+pub mod Carrying
+pub mod Chain
+pub mod OneRead
+pub mod Sessions
+pub mod Goes
+pub mod WholeReads
+pub mod Memory
+pub mod Fitting

@@ -1,0 +1,5 @@
+pub mod Bus
+pub mod BusLaw
+pub mod Opening
+pub mod Reading
+pub mod Reporting
