@@ -7,7 +7,7 @@ use Rattle.chip_step.specs.declared.scsi_bus.Settled.TheVariants.{Selected, Time
 use Rattle.target_law.specs.Target.{Target, linked}
 use Rattle.target_law.specs.Calls.{is_free, link_phase, whole_by, target_selected, link_byte, link_sent, link_takes, link_took}
 use Rattle.straight_run.specs.Reading.{Answers, call_of}
-use Rattle.one_target.specs.Bus.{OneBus, begins, begun_where, is_to_choose, ChoosesWhere, GoesOn, Turns, become, ack_by, ComesIn, StaysOut, after_atn, after_ack, moves}
+use Rattle.one_target.specs.Bus.{BusState, begins, begun_where, is_to_choose, ChoosesWhere, GoesOn, Turns, become, ack_by, ComesIn, StaysOut, after_atn, after_ack, moves}
 
 -- which call it is
 phase-only : (word : ℕ) (given : Event) → call_of given ≡ Phase word None → (x : Option BusPhase) × (given ≡ Phase word x)
@@ -88,18 +88,18 @@ leave-only word ClearAck e = absurd cc
 leave-only word (Leave w x) e = let f : w ≡ word = cc in (x, ap (λ (v : ℕ). Leave v x) f)
 
 -- a target that shows a phase, with no whole descriptor block
-pub record Shows (b : OneBus) (shown : BusPhase) : Type 0 where
+pub record Shows (b : BusState) (shown : BusPhase) : Type 0 where
   pub bound : is_free b.target.link ≡ false
   pub begun : whole_by b.target.link ≡ false
   pub phase : link_phase b.target.link ≡ Some shown
 
-stays_begun : (b : OneBus) (shown : BusPhase) → Shows b shown → begins b.target ≡ b.target
+stays_begun : (b : BusState) (shown : BusPhase) → Shows b shown → begins b.target ≡ b.target
 stays_begun b shown s = ap (λ (x : Bool). begun_where x b.target) s.begun
 
-not_to_choose : (b : OneBus) (shown : BusPhase) → Shows b shown → is_to_choose b.target.link ≡ false
+not_to_choose : (b : BusState) (shown : BusPhase) → Shows b shown → is_to_choose b.target.link ≡ false
 not_to_choose b shown s = rw (s.bound, s.phase) refl
 
-turns-shown : (b mid : OneBus) (shown : BusPhase) → Shows b shown → Turns 0 b mid → mid ≡ b
+turns-shown : (b mid : BusState) (shown : BusPhase) → Shows b shown → Turns 0 b mid → mid ≡ b
 turns-shown b mid shown s t =
     let g : GoesOn 0 b mid = rw s.bound at t in
     let h : ChoosesWhere (is_to_choose b.target.link) b.atn b.rooms 0 b.target g.target = rw (stays_begun b shown s) at g.chooses in
@@ -108,34 +108,34 @@ turns-shown b mid shown s t =
     let i : become (is_free g.target.link) b g.target ≡ record b { target = g.target } = ap (λ (x : Bool). become x b g.target) f in
     g.becomes_it ∙ i ∙ ap (λ (x : Target). record b { target = x }) e
 
-module _ (P : OneBus → Type 0) where
-  pub selects : (b : OneBus) (es : List Event) → is_free b.target.link ≡ true → Answers moves es P (record b { target = target_selected b.target }) → Answers moves (Select 0 0 Selected ∷ es) P b
+module _ (P : BusState → Type 0) where
+  pub selects : (b : BusState) (es : List Event) → is_free b.target.link ≡ true → Answers moves es P (record b { target = target_selected b.target }) → Answers moves (Select 0 0 Selected ∷ es) P b
   selects b es f a = λ given after e m.
       let g : (x : Settled) × (given ≡ Select 0 0 x) = select-only 0 0 given e in
       let m' : moves b (Select 0 0 g.0) after = rw g.1 at m in
       let m'' : (g.0 ≡ Selected) × (after ≡ record b { target = target_selected b.target }) = rw f at m' in
       (g.1 ∙ ap (λ (x : Settled). Select 0 0 x) m''.0, rw m''.1 a)
 
-  pub sets_atn : (on : Bool) (b : OneBus) (es : List Event) → Answers moves es P (after_atn on b) → Answers moves (SetAtn on ∷ es) P b
+  pub sets_atn : (on : Bool) (b : BusState) (es : List Event) → Answers moves es P (after_atn on b) → Answers moves (SetAtn on ∷ es) P b
   sets_atn on b es a = λ given after e m.
       let g : given ≡ SetAtn on = set_atn-only on given e in
       let m' : after ≡ after_atn on b = rw g at m in
       (g, rw m' a)
 
-  pub clears_ack : (b : OneBus) (es : List Event) → Answers moves es P (after_ack b) → Answers moves (ClearAck ∷ es) P b
+  pub clears_ack : (b : BusState) (es : List Event) → Answers moves es P (after_ack b) → Answers moves (ClearAck ∷ es) P b
   clears_ack b es a = λ given after e m.
       let g : given ≡ ClearAck = clear_ack-only given e in
       let m' : after ≡ after_ack b = rw g at m in
       (g, rw m' a)
 
-  pub takes : (byte : ℕ) (b : OneBus) (es : List Event) → link_takes b.target.link ≡ true → Answers moves es P (record b { target = linked b.target (link_took b.target.link byte) }) → Answers moves (ByteOut byte true ∷ es) P b
+  pub takes : (byte : ℕ) (b : BusState) (es : List Event) → link_takes b.target.link ≡ true → Answers moves es P (record b { target = linked b.target (link_took b.target.link byte) }) → Answers moves (ByteOut byte true ∷ es) P b
   takes byte b es t a = λ given after e m.
       let g : (x : Bool) × (given ≡ ByteOut byte x) = byte_out-only byte given e in
       let m' : moves b (ByteOut byte g.0) after = rw g.1 at m in
       let m'' : (g.0 ≡ true) × (after ≡ record b { target = linked b.target (link_took b.target.link byte) }) = rw t at m' in
       (g.1 ∙ ap (λ (x : Bool). ByteOut byte x) m''.0, rw m''.1 a)
 
-  pub gives : (byte : ℕ) (b : OneBus) (es : List Event) → b.asked ≡ link_phase b.target.link → link_byte b.target.link ≡ Some byte →
+  pub gives : (byte : ℕ) (b : BusState) (es : List Event) → b.asked ≡ link_phase b.target.link → link_byte b.target.link ≡ Some byte →
       Answers moves es P (record b { target = linked b.target (link_sent b.target.link); ack = ack_by (Some byte) (link_phase b.target.link) b.ack }) → Answers moves (ByteIn (Some byte) ∷ es) P b
   gives byte b es q t a = λ given after e m.
       let g : (x : Option ℕ) × (given ≡ ByteIn x) = byte_in-only given e in
@@ -148,8 +148,8 @@ module _ (P : OneBus → Type 0) where
       ]
 
   -- the phase after the target's turn
-  pub asks_for : (shown : Option BusPhase) (b : OneBus) (es : List Event) →
-      ((mid : OneBus) → Turns 0 b mid → (link_phase mid.target.link ≡ shown) × Answers moves es P (record mid { asked = shown })) → Answers moves (Phase 0 shown ∷ es) P b
+  pub asks_for : (shown : Option BusPhase) (b : BusState) (es : List Event) →
+      ((mid : BusState) → Turns 0 b mid → (link_phase mid.target.link ≡ shown) × Answers moves es P (record mid { asked = shown })) → Answers moves (Phase 0 shown ∷ es) P b
   asks_for shown b es f = λ given after e m.
       let g : (x : Option BusPhase) × (given ≡ Phase 0 x) = phase-only 0 given e in
       let m' : moves b (Phase 0 g.0) after = rw g.1 at m in
@@ -158,16 +158,16 @@ module _ (P : OneBus → Type 0) where
       let after_is : after ≡ record m'.0 { asked = shown } = m'.3 ∙ ap (λ (o : Option BusPhase). record m'.0 { asked = o }) x in
       (g.1 ∙ ap (λ (o : Option BusPhase). Phase 0 o) x, rw after_is r.1)
 
-  pub leaves : (b : OneBus) (es : List Event) → is_free b.target.link ≡ true → Answers moves es P b → Answers moves (Leave 0 true ∷ es) P b
+  pub leaves : (b : BusState) (es : List Event) → is_free b.target.link ≡ true → Answers moves es P b → Answers moves (Leave 0 true ∷ es) P b
   leaves b es f a = λ given after e m.
       let g : (x : Bool) × (given ≡ Leave 0 x) = leave-only 0 given e in
       let m' : moves b (Leave 0 g.0) after = rw g.1 at m in
       let same : after ≡ b = rw f at m'.0 in
-      let gone : g.0 ≡ true = m'.1 ∙ ap (λ (x : OneBus). is_free x.target.link) same ∙ f in
+      let gone : g.0 ≡ true = m'.1 ∙ ap (λ (x : BusState). is_free x.target.link) same ∙ f in
       (g.1 ∙ ap (λ (x : Bool). Leave 0 x) gone, rw same a)
 
   -- a phase that is shown already
-  pub asks_shown : (shown : BusPhase) (b : OneBus) (es : List Event) → Shows b shown → Answers moves es P (record b { asked = Some shown }) → Answers moves (Phase 0 (Some shown) ∷ es) P b
+  pub asks_shown : (shown : BusPhase) (b : BusState) (es : List Event) → Shows b shown → Answers moves es P (record b { asked = Some shown }) → Answers moves (Phase 0 (Some shown) ∷ es) P b
   asks_shown shown b es s a = asks_for (Some shown) b es (λ mid t.
       let e : mid ≡ b = turns-shown b mid shown s t in
-      (ap (λ (x : OneBus). link_phase x.target.link) e ∙ s.phase, rw e a))
+      (ap (λ (x : BusState). link_phase x.target.link) e ∙ s.phase, rw e a))

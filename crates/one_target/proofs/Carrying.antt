@@ -9,12 +9,12 @@ use Rattle.target_law.specs.Session.{Task}
 use Rattle.target_law.specs.Bytes.{data_at}
 use Rattle.target_law.specs.Target.{LogicalUnit, Target}
 use Rattle.straight_run.specs.Reading.{Answers, ins}
-use Rattle.one_target.specs.Bus.{OneBus, moves}
+use Rattle.one_target.specs.Bus.{BusState, moves}
 use Rattle.one_target.proofs.Asking.{gives}
 use Rattle.one_target.proofs.Choosing.{working}
 
 -- the bus with its target, no line asserted
-abbrev pub bus : List ℕ → Target → Option BusPhase → OneBus
+abbrev pub bus : List ℕ → Target → Option BusPhase → BusState
 bus rooms t asked = record { target = t; rooms = rooms; atn = false; ack = false; asked = asked }
 
 -- the task at a position
@@ -28,7 +28,7 @@ get-after (x ∷ xs) b bs = get-after xs b bs
 data-byte : (k : Task) (a : Answered) (front : List ℕ) (b : ℕ) (bs : List ℕ) (p : ℕ) → k.kept ≡ Some a → a.bytes ≡ front ++ b ∷ bs → p ≡ length front → data_at k.kept p ≡ Some b
 data-byte k a front b bs p e f g = rw (e, f, g) (get-after front b bs)
 
-module _ (P : OneBus → Type 0) (rooms : List ℕ) (u : LogicalUnit) (k : Task) (a : Answered) (kept : k.kept ≡ Some a) where
+module _ (P : BusState → Type 0) (rooms : List ℕ) (u : LogicalUnit) (k : Task) (a : Answered) (kept : k.kept ≡ Some a) where
   pub data_in : (bs : List ℕ) (b : ℕ) (front : List ℕ) (p high : ℕ) (es : List Event) → a.bytes ≡ front ++ b ∷ bs → p ≡ length front →
       ((n h : ℕ) → n ≡ length a.bytes → Answers moves es P (bus rooms (working u (at_place k n h) Choosing) (Some DataIn))) →
       Answers moves (ins (b ∷ bs) es) P (bus rooms (working u (at_place k p high) (Sending (length (b ∷ bs)))) (Some DataIn))

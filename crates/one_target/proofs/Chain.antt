@@ -13,7 +13,7 @@ use Rattle.target_law.specs.Target.{LogicalUnit, Free, Greeted, Commanded, Targe
 use Rattle.target_law.specs.Calls.{is_whole, is_rogue, target_selected, target_messaged, target_acked}
 use Rattle.straight_run.specs.Reading.{Answers, asks, outs, beginning}
 use Rattle.straight_run.specs.Opening.{cdb}
-use Rattle.one_target.specs.Bus.{OneBus, moves, all_fit, if_fits, with_room, becomes, after_atn, after_ack}
+use Rattle.one_target.specs.Bus.{BusState, moves, all_fit, if_fits, with_room, becomes, after_atn, after_ack}
 use Rattle.one_target.proofs.Slots.{slots, unit_at-slots, with_unit-slots, slots-fit}
 use Rattle.one_target.proofs.Asking.{selects, sets_atn, clears_ack, takes, gives, leaves, asks_shown}
 use Rattle.one_target.proofs.Choosing.{connected, working}
@@ -38,7 +38,7 @@ selected-slots u e = rw e refl
 after_ack-working : (rooms : List ℕ) (u : LogicalUnit) (k : Task) (v : Verdict) (s : Session) (asked : Option BusPhase) → closed v (session u (connected k (Saying (Complete v) true))) ≡ s → all_fit (slots (unit_after u s)) rooms ≡ true →
     after_ack (record { target = working u k (Saying (Complete v) true); rooms = rooms; atn = false; ack = true; asked = asked }) ≡ bus rooms (record { units = slots (unit_after u s); link = Free }) asked
 after_ack-working rooms u k v s asked e f =
-    let b : OneBus = record { target = working u k (Saying (Complete v) true); rooms = rooms; atn = false; ack = true; asked = asked } in
+    let b : BusState = record { target = working u k (Saying (Complete v) true); rooms = rooms; atn = false; ack = true; asked = asked } in
     let after : Target = record { units = slots (unit_after u s); link = Free } in
     let g : with_room rooms b.target (target_acked b.target) ≡ with_room rooms b.target after = ap (λ (x : Target). with_room rooms b.target x) (acked-working u k v s e) in
     let h : with_room rooms b.target after ≡ after = ap (λ (x : Bool). if_fits x b.target after) f in
@@ -48,7 +48,7 @@ after_atn-slots : (rooms : List ℕ) (u : LogicalUnit) (asked : Option BusPhase)
     after_atn false (record { target = record { units = slots u; link = Greeted (0xc0 ∷ 0x20 ∷ 0 ∷ []) }; rooms = rooms; atn = true; ack = false; asked = asked })
     ≡ bus rooms (record { units = slots u; link = Commanded (record { lun = 0; tag = 0 }) [] }) asked
 after_atn-slots rooms u asked f =
-    let b : OneBus = record { target = record { units = slots u; link = Greeted (0xc0 ∷ 0x20 ∷ 0 ∷ []) }; rooms = rooms; atn = true; ack = false; asked = asked } in
+    let b : BusState = record { target = record { units = slots u; link = Greeted (0xc0 ∷ 0x20 ∷ 0 ∷ []) }; rooms = rooms; atn = true; ack = false; asked = asked } in
     let after : Target = record { units = slots u; link = Commanded (record { lun = 0; tag = 0 }) [] } in
     let g : with_room rooms b.target (target_messaged b.target) ≡ with_room rooms b.target after = ap (λ (x : Target). with_room rooms b.target x) (messaged-slots u) in
     let h : with_room rooms b.target after ≡ after = ap (λ (x : Bool). if_fits x b.target after) f in
@@ -61,14 +61,14 @@ completing = ByteIn (Some 0) ∷ ClearAck ∷ Leave 0 true ∷ []
 abbrev pub telling : ℕ → List Event
 telling status = ByteIn (Some status) ∷ asks MsgIn completing
 
-module _ (P : OneBus → Type 0) (rooms : List ℕ) (roomy : 8 ≤ get_or rooms 0 0) where
+module _ (P : BusState → Type 0) (rooms : List ℕ) (roomy : 8 ≤ get_or rooms 0 0) where
   pub tells : (u : LogicalUnit) (k : Task) (v : Verdict) (s : Session) → closed v (session u (connected k (Saying (Complete v) true))) ≡ s → length s.log ≤ 8 →
       P (bus rooms (record { units = slots (unit_after u s); link = Free }) (Some MsgIn)) →
       Answers moves (telling (status_code (status_told v))) P (bus rooms (working u k (Telling v)) (Some StatusPhase))
   tells u k v s e l p =
       let f : all_fit (slots (unit_after u s)) rooms ≡ true = slots-fit (unit_after u s) rooms roomy l in
-      let free : OneBus = bus rooms (record { units = slots (unit_after u s); link = Free }) (Some MsgIn) in
-      let acked : OneBus = record { target = working u k (Saying (Complete v) true); rooms = rooms; atn = false; ack = true; asked = Some MsgIn } in
+      let free : BusState = bus rooms (record { units = slots (unit_after u s); link = Free }) (Some MsgIn) in
+      let acked : BusState = record { target = working u k (Saying (Complete v) true); rooms = rooms; atn = false; ack = true; asked = Some MsgIn } in
       let left : Answers moves (Leave 0 true ∷ []) P free = leaves P free [] refl p in
       let left' : Answers moves (Leave 0 true ∷ []) P (after_ack acked) = rw (after_ack-working rooms u k v s (Some MsgIn) e f) left in
       gives P (status_code (status_told v)) (bus rooms (working u k (Telling v)) (Some StatusPhase)) (asks MsgIn completing) refl refl
@@ -112,8 +112,8 @@ module _ (P : OneBus → Type 0) (rooms : List ℕ) (roomy : 8 ≤ get_or rooms 
       Answers moves es P (bus rooms (record { units = slots u; link = Commanded (record { lun = 0; tag = 0 }) (cdb lba) }) (Some Command)) →
       Answers moves (beginning lba es) P (bus rooms (record { units = slots u; link = Free }) asked)
   begins_with u lba asked es quiet l a =
-      let greeted : List ℕ → Option BusPhase → OneBus = λ heard phase. record { target = record { units = slots u; link = Greeted heard }; rooms = rooms; atn = true; ack = false; asked = phase } in
-      let told : OneBus = bus rooms (record { units = slots u; link = Commanded (record { lun = 0; tag = 0 }) [] }) (Some MsgOut) in
+      let greeted : List ℕ → Option BusPhase → BusState = λ heard phase. record { target = record { units = slots u; link = Greeted heard }; rooms = rooms; atn = true; ack = false; asked = phase } in
+      let told : BusState = bus rooms (record { units = slots u; link = Commanded (record { lun = 0; tag = 0 }) [] }) (Some MsgOut) in
       let commanding : List Event = outs (cdb lba) es in
       let a1 : Answers moves (asks Command commanding) P told =
       clears_ack P told (Phase 0 (Some Command) ∷ commanding) (asks_shown P Command told commanding (record { bound = refl; begun = refl; phase = refl }) (command_goes u lba es a)) in
@@ -125,8 +125,8 @@ module _ (P : OneBus → Type 0) (rooms : List ℕ) (roomy : 8 ≤ get_or rooms 
       let speaking : List Event = outs (0xc0 ∷ 0x20 ∷ 0 ∷ []) telling_on in
       let a5 : Answers moves (asks MsgOut speaking) P (greeted [] asked) =
       clears_ack P (greeted [] asked) (Phase 0 (Some MsgOut) ∷ speaking) (asks_shown P MsgOut (greeted [] asked) speaking (record { bound = refl; begun = refl; phase = refl }) a4) in
-      let quiet_greeted : OneBus = bus rooms (record { units = slots u; link = Greeted [] }) asked in
+      let quiet_greeted : BusState = bus rooms (record { units = slots u; link = Greeted [] }) asked in
       let a6 : Answers moves (SetAtn true ∷ asks MsgOut speaking) P quiet_greeted = sets_atn P true quiet_greeted (asks MsgOut speaking) a5 in
-      let free : OneBus = bus rooms (record { units = slots u; link = Free }) asked in
+      let free : BusState = bus rooms (record { units = slots u; link = Free }) asked in
       let a7 : Answers moves (SetAtn true ∷ asks MsgOut speaking) P (record free { target = target_selected free.target }) = rw (selected-slots u quiet) a6 in
       selects P free (SetAtn true ∷ asks MsgOut speaking) refl a7

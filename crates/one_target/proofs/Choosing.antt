@@ -10,7 +10,7 @@ use Rattle.target_law.specs.Bytes.{Connection}
 use Rattle.target_law.specs.Target.{LogicalUnit, Working, Target, session, unit_after, leaves}
 use Rattle.target_law.specs.Calls.{is_free, target_acted}
 use Rattle.target_law.specs.Lawful.{NamesOf}
-use Rattle.one_target.specs.Bus.{OneBus, all_fit, if_fits, with_room, becomes, begins, is_to_choose, leaves_where, settles, Acts, Chooses, ChoosesWhere, GoesOn, Turns}
+use Rattle.one_target.specs.Bus.{BusState, all_fit, if_fits, with_room, becomes, begins, is_to_choose, leaves_where, settles, Acts, Chooses, ChoosesWhere, GoesOn, Turns}
 use Rattle.one_target.proofs.Slots.{slots, unit_at-slots, with_unit-slots}
 
 -- a task of LUN 0 that a selection connected
@@ -62,7 +62,7 @@ acts_where : (atn : Bool) (rooms : List ℕ) (t t' : Target) (c : Connection) �
 acts_where true rooms t t' c e m = absurd cc
 acts_where false rooms t t' c e m = m
 
-pub turns-go : (b mid : OneBus) (u : LogicalUnit) (k : Task) (n : ℕ) (s : Session) → is_free b.target.link ≡ false → b.atn ≡ false → begins b.target ≡ working u k Choosing → Goes u k n s b.rooms →
+pub turns-go : (b mid : BusState) (u : LogicalUnit) (k : Task) (n : ℕ) (s : Session) → is_free b.target.link ≡ false → b.atn ≡ false → begins b.target ≡ working u k Choosing → Goes u k n s b.rooms →
     Turns 0 b mid → mid ≡ record b { target = working (unit_after u s) s.task s.shows }
 turns-go b mid u k n s bound off begun g t =
     let o : GoesOn 0 b mid = rw bound at t in

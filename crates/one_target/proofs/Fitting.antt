@@ -17,7 +17,7 @@ use Rattle.chip_step.specs.Chip.{Chip}
 use Rattle.straight_run.specs.Reading.{GoesThrough}
 use Rattle.straight_run.specs.Steps.{FromOpening}
 use Rattle.straight_run.proofs.Reading.{read_goes, status_goes}
-use Rattle.one_target.specs.Bus.{OneBus, moves}
+use Rattle.one_target.specs.Bus.{BusState, moves}
 use Rattle.one_target.specs.Opening.{one_plain, IsOpened}
 use Rattle.one_target.specs.Reading.{Ended, after_read, block_at, read_log, refused_log}
 use Rattle.one_target.specs.Reporting.{submitted, request_of, the_setting, the_course, report_with, report_in, OneReport, Reported}
@@ -106,7 +106,7 @@ report-in : (m : List ℕ) (status : ℕ) (bytes : List ℕ) → get_or m 0x1001
 report-in m status bytes e f = ap (λ (x : ℕ). report_with x (bytes_at m 0x200000 512)) e ∙ ap (λ (x : List ℕ). report_with status x) f
 
 -- all that is left is what the unit ended with
-whole : (lba status : ℕ) (bytes : List ℕ) (log : List LogEntry) (q : Performed) (moved : List ℕ) (bus : OneBus) (chip : Chip OneBus) → IsOpened bus → FromOpening moves lba bus chip →
+whole : (lba status : ℕ) (bytes : List ℕ) (log : List LogEntry) (q : Performed) (moved : List ℕ) (bus : BusState) (chip : Chip BusState) → IsOpened bus → FromOpening moves lba bus chip →
     GoesThrough lba moved status (Ended (after_read lba) log) chip → run_log (requests_of lba) one_plain log ≡ performed (requests_of lba) (ran_none one_plain) 0 q → q.unit ≡ after_read lba →
     report_in chip.memory ≡ report_with status bytes → OneEnd (tally 0 log) → status ≡ status_code q.answer.status → (report_with status bytes).residual ≡ 512 - if_good q.answer.status (length q.answer.bytes) →
     bytes ≡ filled q.answer.bytes (length q.answer.bytes) submitted → OneReport lba (report_in chip.memory)
@@ -136,7 +136,7 @@ whole lba status bytes log q moved bus chip o f g ran after is k st left held =
     }
 
 -- a block of the unit
-read-reported : (lba : ℕ) → lba < 64 → (bus : OneBus) → IsOpened bus → (chip : Chip OneBus) → FromOpening moves lba bus chip → OneReport lba (report_in chip.memory)
+read-reported : (lba : ℕ) → lba < 64 → (bus : BusState) → IsOpened bus → (chip : Chip BusState) → FromOpening moves lba bus chip → OneReport lba (report_in chip.memory)
 read-reported lba h bus o chip f =
     let received : List ℕ = received_of (request_of lba) in
     let q : Performed = transferred true one_plain one_plain.disk (block_at lba) in
@@ -150,7 +150,7 @@ read-reported lba h bus o chip f =
     whole lba 0 (block_at lba) read_log q (block_at lba) bus chip o f g ran (sym (ap (λ (x : Performed). x.unit) (one-read lba [] h))) is tally-read refl (ap (λ (n : ℕ). 512 - n) (sym len)) (sym (filled-whole (block_at lba) len))
 
 -- an address past its end
-refused-reported : (lba : ℕ) → 64 ≤ lba → lba < 2 ^ 32 → (bus : OneBus) → IsOpened bus → (chip : Chip OneBus) → FromOpening moves lba bus chip → OneReport lba (report_in chip.memory)
+refused-reported : (lba : ℕ) → 64 ≤ lba → lba < 2 ^ 32 → (bus : BusState) → IsOpened bus → (chip : Chip BusState) → FromOpening moves lba bus chip → OneReport lba (report_in chip.memory)
 refused-reported lba h fits bus o chip f =
     let received : List ℕ = received_of (request_of lba) in
     let q : Performed = transferred false one_plain one_plain.disk (block_at lba) in
@@ -172,10 +172,10 @@ reported lba fits bus o chip f = elim (below_or_not lba 64) [
 ]
 
 -- host memory keeps its size
-through-size : (lba status : ℕ) (bytes : List ℕ) (P : OneBus → Type 0) (chip : Chip OneBus) → GoesThrough lba bytes status P chip → length chip.memory ≡ 4194304
+through-size : (lba status : ℕ) (bytes : List ℕ) (P : BusState → Type 0) (chip : Chip BusState) → GoesThrough lba bytes status P chip → length chip.memory ≡ 4194304
 through-size lba status bytes P chip g = ap length g.memory_is ∙ length-after lba bytes status g.zero_memory g.zeros
 
-pub memory-size : (lba : ℕ) → lba < 2 ^ 32 → (bus : OneBus) → IsOpened bus → (chip : Chip OneBus) → FromOpening moves lba bus chip → length chip.memory ≡ 4194304
+pub memory-size : (lba : ℕ) → lba < 2 ^ 32 → (bus : BusState) → IsOpened bus → (chip : Chip BusState) → FromOpening moves lba bus chip → length chip.memory ≡ 4194304
 memory-size lba fits bus o chip f = elim (below_or_not lba 64) [
   | inl h ↦ through-size lba 0 (block_at lba) (Ended (after_read lba) read_log) chip (read_goes moves (Ended (after_read lba) read_log) lba (block_at lba) 0 bus chip f (length-block_at lba h) (reads lba h bus o))
   | inr h ↦ through-size lba 2 [] (Ended (after_read lba) refused_log) chip (status_goes moves (Ended (after_read lba) refused_log) lba 2 bus chip f (checks lba h fits bus o))

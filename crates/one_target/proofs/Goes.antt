@@ -20,7 +20,7 @@ use Rattle.target_law.specs.Target.{LogicalUnit, Free, Commanded, Target, unit_o
 use Rattle.target_law.specs.Calls.{link_phase}
 use Rattle.straight_run.specs.Opening.{cdb}
 use Rattle.straight_run.specs.Reading.{Answers, asks, ins, ending, read_calls, status_calls}
-use Rattle.one_target.specs.Bus.{OneBus, moves, Turns}
+use Rattle.one_target.specs.Bus.{BusState, moves, Turns}
 use Rattle.one_target.specs.Opening.{one_unit}
 use Rattle.one_target.specs.Reading.{Ended, read_log, refused_log}
 use Rattle.one_target.proofs.Slots.{slots, unit_at-slots, opened-slots}
@@ -32,16 +32,16 @@ use Rattle.one_target.proofs.OneRead.{read-cdb}
 use Rattle.one_target.proofs.Sessions.{Calm, unit_with, task_of, begins-slots, done, sending, goes_reading, moved, read_told, goes_told, refused_told, goes_refused, ended_with, read_closed, refused_closed}
 
 -- a phase that a Go leads to
-chosen : (P : OneBus → Type 0) (b : OneBus) (u : LogicalUnit) (k : Task) (n : ℕ) (s : Session) (shown : BusPhase) (es : List Event) →
-    ((mid : OneBus) → Turns 0 b mid → mid ≡ record b { target = working (unit_after u s) s.task s.shows }) → link_phase (working (unit_after u s) s.task s.shows).link ≡ Some shown →
+chosen : (P : BusState → Type 0) (b : BusState) (u : LogicalUnit) (k : Task) (n : ℕ) (s : Session) (shown : BusPhase) (es : List Event) →
+    ((mid : BusState) → Turns 0 b mid → mid ≡ record b { target = working (unit_after u s) s.task s.shows }) → link_phase (working (unit_after u s) s.task s.shows).link ≡ Some shown →
     Answers moves es P (record b { target = working (unit_after u s) s.task s.shows; asked = Some shown }) → Answers moves (Phase 0 (Some shown) ∷ es) P b
 chosen P b u k n s shown es f e a = asks_for P (Some shown) b es (λ mid t.
     let m : mid ≡ record b { target = working (unit_after u s) s.task s.shows } = f mid t in
-    (ap (λ (x : OneBus). link_phase x.target.link) m ∙ e, rw m a))
+    (ap (λ (x : BusState). link_phase x.target.link) m ∙ e, rw m a))
 
-module _ (P : OneBus → Type 0) (rooms : List ℕ) (roomy : 8 ≤ get_or rooms 0 0) (r : RigUnit) (p : Plain) (lba : ℕ) (calm : Calm r) (fits : lba < 2 ^ 32) where
+module _ (P : BusState → Type 0) (rooms : List ℕ) (roomy : 8 ≤ get_or rooms 0 0) (r : RigUnit) (p : Plain) (lba : ℕ) (calm : Calm r) (fits : lba < 2 ^ 32) where
   -- the whole descriptor block has come
-  abbrev commanded : OneBus
+  abbrev commanded : BusState
   commanded = bus rooms (record { units = slots (unit_with r p []); link = Commanded (record { lun = 0; tag = 0 }) (cdb lba) }) (Some Command)
 
   -- the status without data, and the end
@@ -50,7 +50,7 @@ module _ (P : OneBus → Type 0) (rooms : List ℕ) (roomy : 8 ≤ get_or rooms 
   after_refusal q w =
       let st : Status = (done r p lba calm).answer.status in
       let s : Session = refused_told r p lba calm in
-      let told : OneBus = bus rooms (working (unit_with r p []) s.task (Telling (HasAnswered st))) (Some StatusPhase) in
+      let told : BusState = bus rooms (working (unit_with r p []) s.task (Telling (HasAnswered st))) (Some StatusPhase) in
       let a1 : Answers moves (telling (status_code st)) P told =
       tells P rooms roomy (unit_with r p []) s.task (HasAnswered st) (ended_with r p lba calm s refused_log) (refused_closed r p lba calm) (lit≤ tt) q in
       let a2 : Answers moves (ending (status_code st)) P told =
@@ -66,8 +66,8 @@ module _ (P : OneBus → Type 0) (rooms : List ℕ) (roomy : 8 ≤ get_or rooms 
       let st : Status = (done r p lba calm).answer.status in
       let u : LogicalUnit = unit_with r (done r p lba calm).unit (Look 0 ∷ []) in
       let s : Session = read_told r p lba calm n high in
-      let b : OneBus = bus rooms (working u (moved r p lba calm n high) Choosing) (Some DataIn) in
-      let told : OneBus = bus rooms (working u s.task (Telling (HasAnswered st))) (Some StatusPhase) in
+      let b : BusState = bus rooms (working u (moved r p lba calm n high) Choosing) (Some DataIn) in
+      let told : BusState = bus rooms (working u s.task (Telling (HasAnswered st))) (Some StatusPhase) in
       let a1 : Answers moves (telling (status_code st)) P told =
       tells P rooms roomy u s.task (HasAnswered st) (ended_with r p lba calm s read_log) (read_closed r p lba calm n high) (lit≤ tt) q in
       clears_ack P b (Phase 0 (Some StatusPhase) ∷ telling (status_code st))
@@ -91,7 +91,7 @@ module _ (P : OneBus → Type 0) (rooms : List ℕ) (roomy : 8 ≤ get_or rooms 
   after_command bytes e l w q =
       let es : List Event = ins bytes (ending (status_code (done r p lba calm).answer.status)) in
       let s : Session = sending r p lba calm in
-      let b : OneBus = bus rooms (working (unit_with r (done r p lba calm).unit (Look 0 ∷ [])) s.task (Sending 512)) (Some DataIn) in
+      let b : BusState = bus rooms (working (unit_with r (done r p lba calm).unit (Look 0 ∷ [])) s.task (Sending 512)) (Some DataIn) in
       let a1 : Answers moves es P b = bytes_go bytes e l q in
       let a2 : Answers moves (asks DataIn es) P b = clears_ack P b (Phase 0 (Some DataIn) ∷ es) (asks_shown P DataIn b es (record { bound = refl; begun = refl; phase = refl }) a1) in
       clears_ack P commanded (Phase 0 (Some DataIn) ∷ asks DataIn es)
@@ -115,11 +115,11 @@ pub ended-slots : (rooms : List ℕ) (r : RigUnit) (p : Plain) (log : List LogEn
 ended-slots rooms r p log asked = record { free = refl; unit = unit_with r p log; unit_is = unit_at-slots (unit_with r p log); plain_is = refl; log_is = refl }
 
 -- the opening, place by place
-pub opened-bus : (b : OneBus) (r : RigUnit) → b.target ≡ target_opened (r ∷ []) → b.atn ≡ false → b.ack ≡ false → r.lun ≡ 0 → b ≡ bus b.rooms (record { units = slots (unit_with r (opened r.blocks r.pattern) []); link = Free }) b.asked
+pub opened-bus : (b : BusState) (r : RigUnit) → b.target ≡ target_opened (r ∷ []) → b.atn ≡ false → b.ack ≡ false → r.lun ≡ 0 → b ≡ bus b.rooms (record { units = slots (unit_with r (opened r.blocks r.pattern) []); link = Free }) b.asked
 opened-bus b r t atn ack lun =
     let e : b.target ≡ record { units = slots (unit_opened r); link = Free } = t ∙ opened-slots r lun in
-    let b1 : OneBus = record b { target = record { units = slots (unit_opened r); link = Free } } in
-    let b2 : OneBus = record b1 { atn = false } in
+    let b1 : BusState = record b { target = record { units = slots (unit_opened r); link = Free } } in
+    let b2 : BusState = record b1 { atn = false } in
     ap (λ (x : Target). record b { target = x }) e ∙ ap (λ (x : Bool). record b1 { atn = x }) atn ∙ ap (λ (x : Bool). record b2 { ack = x }) ack
 
 -- the unit of the opening

@@ -9,3 +9,5 @@ pub mod Goes
 pub mod WholeReads
 pub mod Memory
 pub mod Fitting
+pub mod Keeping
+pub mod Between

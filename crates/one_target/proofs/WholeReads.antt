@@ -8,7 +8,7 @@ use Rattle.plain_lun.specs.Unit.{blocks_of}
 use Rattle.plain_lun.specs.Performing.{Performed, perform, holds, transferred}
 use Rattle.target_law.specs.Target.{Free}
 use Rattle.straight_run.specs.Reading.{Answers, read_calls, status_calls}
-use Rattle.one_target.specs.Bus.{OneBus, moves}
+use Rattle.one_target.specs.Bus.{BusState, moves}
 use Rattle.one_target.specs.Opening.{one_unit, one_plain, IsOpened}
 use Rattle.one_target.specs.Reading.{Ended, after_read, block_at, read_log, refused_log, Reads, Checks}
 use Rattle.one_target.proofs.Slots.{slots}
@@ -33,15 +33,15 @@ one-refused lba received h = performed one_plain lba received refl ∙ ap (λ (x
 pub length-block_at : (lba : ℕ) → lba < 64 → length (block_at lba) ≡ 512
 length-block_at lba h = length-block one_plain.disk lba (rw one-length (omega arith))
 
-abbrev opened_bus : OneBus → OneBus
+abbrev opened_bus : BusState → BusState
 opened_bus b = bus b.rooms (record { units = slots (unit_with one_unit one_plain []); link = Free }) b.asked
 
-is-opened_bus : (b : OneBus) → IsOpened b → b ≡ opened_bus b
+is-opened_bus : (b : BusState) → IsOpened b → b ≡ opened_bus b
 is-opened_bus b o = opened-bus b one_unit o.target_is o.atn o.ack one-lun
 
 pub reads : Reads
 reads lba h b o =
-    let P : OneBus → Type 0 = Ended (after_read lba) read_log in
+    let P : BusState → Type 0 = Ended (after_read lba) read_log in
     let done : Performed = perform one_plain (Read lba 1 false) [] in
     let is : done ≡ transferred true one_plain one_plain.disk (block_at lba) = one-read lba [] h in
     let there : holds one_plain lba 1 ≡ true = holds-there one_plain lba 64 one-blocks_of h in
@@ -51,11 +51,11 @@ reads lba h b o =
     read_answers P b.rooms o.room one_unit one_plain lba one-calm (omega arith) b.asked (block_at lba) one-quiet bytes (length-block_at lba h) (wants-there one_plain lba refl there) (ended-slots b.rooms one_unit (after_read lba) read_log _) in
     let c : Answers moves (read_calls lba (block_at lba) (status_code Good)) P (opened_bus b) =
     subst (λ (st : Status). Answers moves (read_calls lba (block_at lba) (status_code st)) P (opened_bus b)) status a in
-    subst (λ (x : OneBus). Answers moves (read_calls lba (block_at lba) (status_code Good)) P x) (sym (is-opened_bus b o)) c
+    subst (λ (x : BusState). Answers moves (read_calls lba (block_at lba) (status_code Good)) P x) (sym (is-opened_bus b o)) c
 
 pub checks : Checks
 checks lba h fits b o =
-    let P : OneBus → Type 0 = Ended (after_read lba) refused_log in
+    let P : BusState → Type 0 = Ended (after_read lba) refused_log in
     let done : Performed = perform one_plain (Read lba 1 false) [] in
     let is : done ≡ transferred false one_plain one_plain.disk (block_at lba) = one-refused lba [] h in
     let past : holds one_plain lba 1 ≡ false = holds-past one_plain lba 64 one-blocks_of h in
@@ -64,4 +64,4 @@ checks lba h fits b o =
     refusal_answers P b.rooms o.room one_unit one_plain lba one-calm fits b.asked one-quiet (wants-past one_plain lba refl past) (ended-slots b.rooms one_unit (after_read lba) refused_log _) in
     let c : Answers moves (status_calls lba (status_code Check)) P (opened_bus b) =
     subst (λ (st : Status). Answers moves (status_calls lba (status_code st)) P (opened_bus b)) status a in
-    subst (λ (x : OneBus). Answers moves (status_calls lba (status_code Check)) P x) (sym (is-opened_bus b o)) c
+    subst (λ (x : BusState). Answers moves (status_calls lba (status_code Check)) P x) (sym (is-opened_bus b o)) c

@@ -15,7 +15,7 @@ use Rattle.target_law.specs.Calls.{is_free, link_phase, nexus_of, whole_by, targ
 use Rattle.target_law.specs.Lawful.{NamesOf}
 
 -- a bus with its one target: how many entries each log may have, by LUN; ATN and ACK; and the phase that was asked for last
-pub record OneBus : Type 0 where
+pub record BusState : Type 0 where
   pub target : Target
   pub rooms : List ℕ
   pub atn : Bool
@@ -41,11 +41,11 @@ abbrev pub with_room : List ℕ → (old new : Target) → Target
 with_room rooms old new = if_fits (all_fit new.units rooms) old new
 
 -- the target has changed; where it has left the bus free, neither ATN nor ACK stays asserted
-abbrev pub become : Bool → OneBus → Target → OneBus
+abbrev pub become : Bool → BusState → Target → BusState
 become true b t = record b { target = t; atn = false; ack = false }
 become false b t = record b { target = t }
 
-abbrev pub becomes : OneBus → Target → OneBus
+abbrev pub becomes : BusState → Target → BusState
 becomes b t = become (is_free t.link) b t
 
 -- no task of the unit waits
@@ -100,16 +100,16 @@ ChoosesWhere true atn rooms word t t' = Chooses t.link atn rooms word t t'
 ChoosesWhere false atn rooms word t t' = t' ≡ t
 
 -- the bus after the target's turn: a free bus stays
-pub record GoesOn (word : ℕ) (b b' : OneBus) : Type 0 where
+pub record GoesOn (word : ℕ) (b b' : BusState) : Type 0 where
   pub target : Target
   pub chooses : ChoosesWhere (is_to_choose (begins b.target).link) b.atn b.rooms word (begins b.target) target
   pub becomes_it : b' ≡ becomes b target
 
-abbrev pub TurnsWhere : (free : Bool) → (word : ℕ) → (b b' : OneBus) → Type 0
+abbrev pub TurnsWhere : (free : Bool) → (word : ℕ) → (b b' : BusState) → Type 0
 TurnsWhere true word b b' = b' ≡ b
 TurnsWhere false word b b' = GoesOn word b b'
 
-abbrev pub Turns : (word : ℕ) → (b b' : OneBus) → Type 0
+abbrev pub Turns : (word : ℕ) → (b b' : BusState) → Type 0
 Turns word b b' = TurnsWhere (is_free b.target.link) word b b'
 
 -- a byte of MSG_IN asserts ACK
@@ -118,7 +118,7 @@ ack_by (Some byte) (Some phase.MsgIn) ack = true
 ack_by _ shown ack = ack
 
 -- a byte comes only in the phase that was asked for
-pub record ComesIn (b : OneBus) (byte : Option ℕ) (b' : OneBus) : Type 0 where
+pub record ComesIn (b : BusState) (byte : Option ℕ) (b' : BusState) : Type 0 where
   pub asked : b.asked ≡ link_phase b.target.link
   pub byte_is : byte ≡ link_byte b.target.link
   pub after : b' ≡ record b {
@@ -126,13 +126,13 @@ pub record ComesIn (b : OneBus) (byte : Option ℕ) (b' : OneBus) : Type 0 where
     ack = ack_by (link_byte b.target.link) (link_phase b.target.link) b.ack;
   }
 
-pub record StaysOut (b : OneBus) (byte : Option ℕ) (b' : OneBus) : Type 0 where
+pub record StaysOut (b : BusState) (byte : Option ℕ) (b' : BusState) : Type 0 where
   pub unasked : b.asked ≡ link_phase b.target.link → ⊥
   pub none : byte ≡ None
   pub same : b' ≡ b
 
 -- target 0 alone is there, and answers where the bus is free
-abbrev pub SelectsWhere : Bool → OneBus → Settled → OneBus → Type 0
+abbrev pub SelectsWhere : Bool → BusState → Settled → BusState → Type 0
 SelectsWhere true b settled b' = (settled ≡ Selected) × (b' ≡ record b { target = target_selected b.target })
 SelectsWhere false b settled b' = (settled ≡ TimedOut) × (b' ≡ b)
 
@@ -141,25 +141,25 @@ abbrev pub is_message : Option BusPhase → Bool
 is_message (Some phase.MsgOut) = true
 is_message _ = false
 
-abbrev pub messaged_where : Bool → OneBus → OneBus
+abbrev pub messaged_where : Bool → BusState → BusState
 messaged_where true b = becomes b (with_room b.rooms b.target (target_messaged b.target))
 messaged_where false b = b
 
-abbrev pub after_atn : Bool → OneBus → OneBus
+abbrev pub after_atn : Bool → BusState → BusState
 after_atn true b = record b { atn = true }
 after_atn false b = record (messaged_where (is_message (link_phase b.target.link)) b) { atn = false }
 
 -- ACK is released, by which the target acts on its message byte
-abbrev pub acked_where : Bool → OneBus → OneBus
+abbrev pub acked_where : Bool → BusState → BusState
 acked_where true b = record (becomes b (with_room b.rooms b.target (target_acked b.target))) { ack = false }
 acked_where false b = b
 
-abbrev pub after_ack : OneBus → OneBus
+abbrev pub after_ack : BusState → BusState
 after_ack b = acked_where b.ack b
 
 -- what each call answers, and what it makes of the bus
-abbrev pub moves : OneBus → Event → OneBus → Type 0
-moves b (Phase word shown) b' = (mid : OneBus) × Turns word b mid × (shown ≡ link_phase mid.target.link) × (b' ≡ record mid { asked = shown })
+abbrev pub moves : BusState → Event → BusState → Type 0
+moves b (Phase word shown) b' = (mid : BusState) × Turns word b mid × (shown ≡ link_phase mid.target.link) × (b' ≡ record mid { asked = shown })
 moves b (Shown shown) b' = (shown ≡ link_phase b.target.link) × (b' ≡ b)
 moves b (ByteIn byte) b' = ComesIn b byte b' ⊎ StaysOut b byte b'
 moves b (ByteOut byte taken) b' = (taken ≡ link_takes b.target.link) × (b' ≡ record b { target = linked b.target (took_if (link_takes b.target.link) b.target.link byte) })
@@ -169,5 +169,5 @@ moves b (SetAtn on) b' = b' ≡ after_atn on b
 moves b ClearAck b' = b' ≡ after_ack b
 moves b (Leave word gone) b' = Turns word b b' × (gone ≡ is_free b'.target.link)
 
-abbrev pub signals_of : OneBus → Signals
+abbrev pub signals_of : BusState → Signals
 signals_of b = record { free = is_free b.target.link; atn = b.atn; ack = b.ack; shown = link_phase b.target.link }

@@ -8,7 +8,7 @@ use Rattle.chip_step.specs.declared.scsi_bus.Settled.TheVariants.{Selected, Rese
 use Rattle.target_law.specs.Bytes.{Connection}
 use Rattle.target_law.specs.Target.{Link, Free, Greeted, Commanded, Working, Straying, Target, linked, leaves}
 use Rattle.target_law.specs.Calls.{is_free, link_phase, link_byte, link_takes, took_if, sent_if, target_acted}
-use Rattle.one_target.specs.Bus.{OneBus, with_room, become, begins, is_to_choose, leaves_where, Acts, Chooses, ChoosesWhere, GoesOn, TurnsWhere, ack_by, ComesIn, StaysOut, SelectsWhere, acked_where, moves, signals_of}
+use Rattle.one_target.specs.Bus.{BusState, with_room, become, begins, is_to_choose, leaves_where, Acts, Chooses, ChoosesWhere, GoesOn, TurnsWhere, ack_by, ComesIn, StaysOut, SelectsWhere, acked_where, moves, signals_of}
 
 -- no phase is shown, and the target isn't to choose: the bus is free
 free_where : (free : Bool) (shown : Option BusPhase) → shown ≡ None → not free && is_none shown ≡ false → free ≡ true
@@ -23,7 +23,7 @@ unfree (Commanded n taken) p e = refl
 unfree (Working c) p e = refl
 unfree (Straying s n) p e = refl
 
-become-target : (free : Bool) (b : OneBus) (t : Target) → (become free b t).target ≡ t
+become-target : (free : Bool) (b : BusState) (t : Target) → (become free b t).target ≡ t
 become-target true b t = refl
 become-target false b t = refl
 
@@ -32,13 +32,13 @@ settles-free : (still : Bool) (left after : Target) → is_to_choose after.link 
 settles-free true left after e f h = f
 settles-free false left after e f h = free_where (is_free after.link) (link_phase after.link) h e
 
-acts-free : (b : OneBus) (word : ℕ) (t t' : Target) (c : Connection) → Acts b.rooms word t c t' → link_phase t'.link ≡ None → is_free t'.link ≡ true
+acts-free : (b : BusState) (word : ℕ) (t t' : Target) (c : Connection) → Acts b.rooms word t c t' → link_phase t'.link ≡ None → is_free t'.link ≡ true
 acts-free b word t t' c a h =
     let after : Target = with_room b.rooms t (target_acted t a.move) in
     let e : link_phase (leaves_where (is_to_choose after.link) (leaves t c a.unit) after).link ≡ None = ap (λ (x : Target). link_phase x.link) (sym a.after) ∙ h in
     ap (λ (x : Target). is_free x.link) a.after ∙ settles-free (is_to_choose after.link) (leaves t c a.unit) after refl refl e
 
-chooses-free : (l : Link) (atn : Bool) (b : OneBus) (word : ℕ) (t t' : Target) → Chooses l atn b.rooms word t t' → link_phase t'.link ≡ None → is_free t'.link ≡ true
+chooses-free : (l : Link) (atn : Bool) (b : BusState) (word : ℕ) (t t' : Target) → Chooses l atn b.rooms word t t' → link_phase t'.link ≡ None → is_free t'.link ≡ true
 chooses-free (Working c) true b word t t' m h = let e : Some MsgOut ≡ None = ap (λ (x : Target). link_phase x.link) (sym m) ∙ h in absurd cc
 chooses-free (Working c) false b word t t' m h = acts-free b word t t' c m h
 chooses-free Free atn b word t t' m h = absurd m
@@ -46,22 +46,22 @@ chooses-free (Greeted heard) atn b word t t' m h = absurd m
 chooses-free (Commanded n taken) atn b word t t' m h = absurd m
 chooses-free (Straying s n) atn b word t t' m h = absurd m
 
-turn-free : (to_choose : Bool) (b : OneBus) (word : ℕ) (t t' : Target) → is_to_choose t.link ≡ to_choose → ChoosesWhere to_choose b.atn b.rooms word t t' → link_phase t'.link ≡ None → is_free t'.link ≡ true
+turn-free : (to_choose : Bool) (b : BusState) (word : ℕ) (t t' : Target) → is_to_choose t.link ≡ to_choose → ChoosesWhere to_choose b.atn b.rooms word t t' → link_phase t'.link ≡ None → is_free t'.link ≡ true
 turn-free true b word t t' e m h = chooses-free t.link b.atn b word t t' m h
 turn-free false b word t t' e m h =
     ap (λ (x : Target). is_free x.link) m ∙ free_where (is_free t.link) (link_phase t.link) (ap (λ (x : Target). link_phase x.link) (sym m) ∙ h) e
 
-goes-free : (b b' : OneBus) (word : ℕ) → GoesOn word b b' → link_phase b'.target.link ≡ None → is_free b'.target.link ≡ true
+goes-free : (b b' : BusState) (word : ℕ) → GoesOn word b b' → link_phase b'.target.link ≡ None → is_free b'.target.link ≡ true
 goes-free b b' word g h =
-    let e : b'.target ≡ g.target = ap (λ (x : OneBus). x.target) g.becomes_it ∙ become-target (is_free g.target.link) b g.target in
+    let e : b'.target ≡ g.target = ap (λ (x : BusState). x.target) g.becomes_it ∙ become-target (is_free g.target.link) b g.target in
     let f : link_phase g.target.link ≡ None = ap (λ (x : Target). link_phase x.link) (sym e) ∙ h in
     ap (λ (x : Target). is_free x.link) e ∙ turn-free (is_to_choose (begins b.target).link) b word (begins b.target) g.target refl g.chooses f
 
-turns-free : (free : Bool) (b b' : OneBus) (word : ℕ) → is_free b.target.link ≡ free → TurnsWhere free word b b' → link_phase b'.target.link ≡ None → is_free b'.target.link ≡ true
-turns-free true b b' word e m h = ap (λ (x : OneBus). is_free x.target.link) m ∙ e
+turns-free : (free : Bool) (b b' : BusState) (word : ℕ) → is_free b.target.link ≡ free → TurnsWhere free word b b' → link_phase b'.target.link ≡ None → is_free b'.target.link ≡ true
+turns-free true b b' word e m h = ap (λ (x : BusState). is_free x.target.link) m ∙ e
 turns-free false b b' word e m h = goes-free b b' word m h
 
-free-stays : (free : Bool) (b b' : OneBus) (word : ℕ) → free ≡ true → TurnsWhere free word b b' → b' ≡ b
+free-stays : (free : Bool) (b b' : BusState) (word : ℕ) → free ≡ true → TurnsWhere free word b b' → b' ≡ b
 free-stays true b b' word e m = m
 free-stays false b b' word e m = absurd cc
 
@@ -70,38 +70,38 @@ comes-ack : (byte : ℕ) (o : Option ℕ) (shown : Option BusPhase) (ack : Bool)
 comes-ack byte (Some x) shown ack e h = ap (λ (p : Option BusPhase). ack_by (Some x) p ack) h
 comes-ack byte None shown ack e h = absurd cc
 
-byte_acks : (old new : OneBus) (byte : ℕ) → ComesIn old (Some byte) new ⊎ StaysOut old (Some byte) new → link_phase old.target.link ≡ Some MsgIn → new.ack ≡ true
+byte_acks : (old new : BusState) (byte : ℕ) → ComesIn old (Some byte) new ⊎ StaysOut old (Some byte) new → link_phase old.target.link ≡ Some MsgIn → new.ack ≡ true
 byte_acks old new byte m shown = elim m [
-  | inl x ↦ ap (λ (b : OneBus). b.ack) x.after ∙ comes-ack byte (link_byte old.target.link) (link_phase old.target.link) old.ack x.byte_is shown
+  | inl x ↦ ap (λ (b : BusState). b.ack) x.after ∙ comes-ack byte (link_byte old.target.link) (link_phase old.target.link) old.ack x.byte_is shown
   | inr x ↦ let e : Some byte ≡ None = x.none in absurd cc
 ]
 
-no_byte-stays : (o : Option ℕ) (b : OneBus) → None ≡ o → record b { target = linked b.target (sent_if o b.target.link); ack = ack_by o (link_phase b.target.link) b.ack } ≡ b
+no_byte-stays : (o : Option ℕ) (b : BusState) → None ≡ o → record b { target = linked b.target (sent_if o b.target.link); ack = ack_by o (link_phase b.target.link) b.ack } ≡ b
 no_byte-stays (Some x) b e = absurd cc
 no_byte-stays None b e = refl
 
-no_byte : (old new : OneBus) → ComesIn old None new ⊎ StaysOut old None new → new ≡ old
+no_byte : (old new : BusState) → ComesIn old None new ⊎ StaysOut old None new → new ≡ old
 no_byte old new m = elim m [
   | inl x ↦ x.after ∙ no_byte-stays (link_byte old.target.link) old x.byte_is
   | inr x ↦ x.same
 ]
 
-untaken : (takes : Bool) (b : OneBus) (byte : ℕ) → false ≡ takes → record b { target = linked b.target (took_if takes b.target.link byte) } ≡ b
+untaken : (takes : Bool) (b : BusState) (byte : ℕ) → false ≡ takes → record b { target = linked b.target (took_if takes b.target.link byte) } ≡ b
 untaken true b byte e = absurd cc
 untaken false b byte e = refl
 
-never_reselects : (there : Bool) (old new : OneBus) (by : ℕ) → SelectsWhere there old (Reselected by) new → ⊥
+never_reselects : (there : Bool) (old new : BusState) (by : ℕ) → SelectsWhere there old (Reselected by) new → ⊥
 never_reselects true old new by m = let e : Reselected by ≡ Selected = m.0 in cc
 never_reselects false old new by m = let e : Reselected by ≡ TimedOut = m.0 in cc
 
-unacknowledged : (ack : Bool) (b : OneBus) → ack ≡ false → acked_where ack b ≡ b
+unacknowledged : (ack : Bool) (b : BusState) → ack ≡ false → acked_where ack b ≡ b
 unacknowledged true b e = absurd cc
 unacknowledged false b e = refl
 
-pub moves_lawfully : (old : OneBus) → (event : Event) → (new : OneBus) → moves old event new → IsLawful signals_of old event new
+pub moves_lawfully : (old : BusState) → (event : Event) → (new : BusState) → moves old event new → IsLawful signals_of old event new
 moves_lawfully old (Phase word None) new m =
-    ap (λ (b : OneBus). is_free b.target.link) m.3 ∙ turns-free (is_free old.target.link) old m.0 word refl m.1 (sym m.2)
-moves_lawfully old (Phase word (Some phase)) new m = ap (λ (b : OneBus). is_free b.target.link) m.3 ∙ unfree m.0.target.link phase m.2
+    ap (λ (b : BusState). is_free b.target.link) m.3 ∙ turns-free (is_free old.target.link) old m.0 word refl m.1 (sym m.2)
+moves_lawfully old (Phase word (Some phase)) new m = ap (λ (b : BusState). is_free b.target.link) m.3 ∙ unfree m.0.target.link phase m.2
 moves_lawfully old (Shown phase) new m = m.0
 moves_lawfully old (ByteIn (Some byte)) new m = λ shown. byte_acks old new byte m shown
 moves_lawfully old (ByteIn None) new m = no_byte old new m
@@ -112,7 +112,7 @@ moves_lawfully old (Select target word (Reselected by)) new m = absurd (never_re
 moves_lawfully old (Select target word TimedOut) new m = tt
 moves_lawfully old (Reselect word (Some by)) new m = absurd (let e : Some by ≡ None = m.0 in cc)
 moves_lawfully old (Reselect word None) new m = m.1
-moves_lawfully old (SetAtn true) new m = λ e. let with : Bool → OneBus = λ a. record old { atn = a } in m ∙ ap with (sym e)
+moves_lawfully old (SetAtn true) new m = λ e. let with : Bool → BusState = λ a. record old { atn = a } in m ∙ ap with (sym e)
 moves_lawfully old (SetAtn false) new m = tt
 moves_lawfully old ClearAck new m = λ e. m ∙ unacknowledged old.ack old e
 moves_lawfully old (Leave word gone) new m = (m.1, λ e. free-stays (is_free old.target.link) old new word e m.0)

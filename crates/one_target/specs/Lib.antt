@@ -3,3 +3,4 @@ pub mod BusLaw
 pub mod Opening
 pub mod Reading
 pub mod Reporting
+pub mod Holding

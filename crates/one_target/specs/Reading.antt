@@ -9,7 +9,7 @@ use Rattle.unit_law.specs.declared.entry.LogEntry.{LogEntry}
 use Rattle.unit_law.specs.declared.entry.LogEntry.TheVariants.{Look, End}
 use Rattle.target_law.specs.Target.{LogicalUnit, Free, unit_at}
 use Rattle.straight_run.specs.Reading.{Answers, read_calls, status_calls}
-use Rattle.one_target.specs.Bus.{OneBus, moves}
+use Rattle.one_target.specs.Bus.{BusState, moves}
 use Rattle.one_target.specs.Opening.{one_plain, IsOpened}
 
 -- the unit after it has read one block by itself
@@ -17,7 +17,7 @@ abbrev pub after_read : ℕ → Plain
 after_read lba = (perform one_plain (Read lba 1 false) []).unit
 
 -- the bus is free, and the unit is this one with this log
-pub record Ended (plain : Plain) (log : List LogEntry) (b : OneBus) : Type 0 where
+pub record Ended (plain : Plain) (log : List LogEntry) (b : BusState) : Type 0 where
   pub free : b.target.link ≡ Free
   pub unit : LogicalUnit
   pub unit_is : unit_at b.target.units 0 ≡ Some unit
@@ -36,7 +36,7 @@ refused_log = End 0 ∷ []
 
 -- a block of the unit is read with GOOD; the address of any other ends with CHECK CONDITION and no data
 abbrev pub Reads : Type 0
-Reads = (lba : ℕ) → lba < 64 → (b : OneBus) → IsOpened b → Answers moves (read_calls lba (block_at lba) (status_code Good)) (Ended (after_read lba) read_log) b
+Reads = (lba : ℕ) → lba < 64 → (b : BusState) → IsOpened b → Answers moves (read_calls lba (block_at lba) (status_code Good)) (Ended (after_read lba) read_log) b
 
 abbrev pub Checks : Type 0
-Checks = (lba : ℕ) → 64 ≤ lba → lba < 2 ^ 32 → (b : OneBus) → IsOpened b → Answers moves (status_calls lba (status_code Check)) (Ended (after_read lba) refused_log) b
+Checks = (lba : ℕ) → 64 ≤ lba → lba < 2 ^ 32 → (b : BusState) → IsOpened b → Answers moves (status_calls lba (status_code Check)) (Ended (after_read lba) refused_log) b

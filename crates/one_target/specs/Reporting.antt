@@ -15,7 +15,7 @@ use Rattle.unit_law.specs.Request.{PlainRequest}
 use Rattle.unit_law.specs.Log.{run_log, view_of}
 use Rattle.unit_law.specs.Report.{Setting, Course, Fits, SenseFits}
 use Rattle.target_law.specs.Target.{LogicalUnit, unit_at}
-use Rattle.one_target.specs.Bus.{OneBus, moves}
+use Rattle.one_target.specs.Bus.{BusState, moves}
 use Rattle.one_target.specs.Opening.{one_plain, IsOpened}
 
 -- the buffer as submitted
@@ -53,9 +53,9 @@ report_in memory = report_with (slice_index memory 0x10014) (bytes_at memory 0x2
 -- The report is one of ticket 0 that fits its unit: from an opened bus the chip made the steps of the straight script up to INT 7, the unit
 -- is what its log makes of it alone, and the report fits this log.
 pub record OneReport (lba : ℕ) (q : Report) : Type 0 where
-  pub bus : OneBus
+  pub bus : BusState
   pub opened : IsOpened bus
-  pub chip : Chip OneBus
+  pub chip : Chip BusState
   pub ran : FromOpening moves lba bus chip
   pub through : cause_of chip.regs ≡ Some (Sir 7)
   pub unit : LogicalUnit
@@ -68,4 +68,4 @@ pub record OneReport (lba : ℕ) (q : Report) : Type 0 where
 
 -- whatever steps the straight script made from an opened bus, host memory then holds the report
 abbrev pub Reported : Type 0
-Reported = (lba : ℕ) → lba < 2 ^ 32 → (bus : OneBus) → IsOpened bus → (chip : Chip OneBus) → FromOpening moves lba bus chip → OneReport lba (report_in chip.memory)
+Reported = (lba : ℕ) → lba < 2 ^ 32 → (bus : BusState) → IsOpened bus → (chip : Chip BusState) → FromOpening moves lba bus chip → OneReport lba (report_in chip.memory)

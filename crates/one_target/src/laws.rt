@@ -2,13 +2,14 @@
 
 ghost use Rattle.chip_step.specs.Event.{Event};
 ghost use Rattle.chip_step.specs.Laws.{IsLawful};
-ghost use Rattle.one_target.specs.Bus.{OneBus, moves, signals_of};
+ghost use Rattle.one_target.specs.Bus.{BusState, moves, signals_of};
+ghost use Rattle.one_target.specs.Holding.{IsHeld};
 ghost use Rattle.one_target.specs.Reading.{Checks, Reads};
 ghost use Rattle.one_target.specs.Reporting.{Reported};
 
 /// Each move of the bus keeps the laws of a bus.
 pub fn bus_is_lawful()
-    ensures { (old : OneBus) → (event : Event) → (new : OneBus) → moves old event new → IsLawful signals_of old event new }
+    ensures { (old : BusState) → (event : Event) → (new : BusState) → moves old event new → IsLawful signals_of old event new }
 {}
 
 /// From the opening the bus has one answer to each call of a READ(10) of one block: the block's bytes with GOOD, or
@@ -22,4 +23,10 @@ pub fn read_has_one_answer()
 /// then holds fits the unit's log.
 pub fn report_fits_the_log()
     ensures { Reported }
+{}
+
+/// Each move of the bus of `one` keeps what holds of it between its calls: its one unit stays alone, is always the
+/// one that is connected, and ACK is asserted only while a message byte waits for it.
+pub fn bus_stays_held()
+    ensures { (old : BusState) → (event : Event) → (new : BusState) → moves old event new → IsHeld old → IsHeld new }
 {}

@@ -5,4 +5,4 @@
 
 mod laws;
 
-pub use laws::{bus_is_lawful, read_has_one_answer, report_fits_the_log};
+pub use laws::{bus_is_lawful, bus_stays_held, read_has_one_answer, report_fits_the_log};

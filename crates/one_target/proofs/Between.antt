@@ -1,0 +1,231 @@
+-- Each move of the bus of `one` keeps what holds of it between its calls.
+use Rattle.std.proofs.Common.{◌≡◌, ℕ, ◌==◌, ◌&&◌, Bool, true, false, List, refl, ap, sym, ◌∙◌, subst, ◌⊎◌, inl, inr, Option, Some, None}
+use Rattle.scsi_words.specs.declared.phases.kinds.Phase.{Phase as BusPhase}
+use Rattle.scsi_words.specs.declared.phases.kinds.Phase.TheVariants as phase
+use Rattle.chip_step.specs.Event.{Event, Phase, Shown, ByteIn, ByteOut, Select, Reselect, SetAtn, ClearAck, Leave}
+use Rattle.chip_step.specs.declared.scsi_bus.Settled.{Settled}
+use Rattle.target_law.specs.declared.nexus.Nexus.{Nexus}
+use Rattle.target_law.specs.declared.showing.Showing.{Showing}
+use Rattle.target_law.specs.declared.showing.Showing.TheVariants.{Choosing, Hearing, Sending, Receiving, Telling, Saying}
+use Rattle.target_law.specs.Session.{Task}
+use Rattle.target_law.specs.Bytes.{Connection, phase_of, byte_by, takes_by, sent_by}
+use Rattle.target_law.specs.Target.{LogicalUnit, Link, Free, Greeted, Commanded, Working, Straying, Target, unit_at, on_unit, linked, leaves}
+use Rattle.target_law.specs.Calls.{is_free, link_phase, nexus_of, whole_by, target_selected, target_acted, asked_by, link_byte, link_sent, sent_if, link_takes, took_if, target_messaged, target_acked}
+use Rattle.one_target.specs.Bus.{BusState, all_fit, if_fits, with_room, become, becomes, live_ticket, begun_of, begun_where, begins, is_to_choose, leaves_where, settles, Acts, Chooses, ChoosesWhere, GoesOn, TurnsWhere, Turns, ack_by, ComesIn, StaysOut, SelectsWhere, is_message, messaged_where, after_atn, acked_where, moves}
+use Rattle.one_target.specs.Holding.{is_alone, is_of_one, is_said, awaits_ack, IsHeld}
+use Rattle.one_target.proofs.Keeping.{IsKept, alone-of, kept-acted, kept-messaged, kept-acked, kept-begun, kept-linked, kept-sent, kept-took, kept-left, kept-selected}
+
+pub kept-of : (b : BusState) → IsHeld b → IsKept b.target
+kept-of b h = record { alone = alone-of b.target.units h.alone; of_one = h.of_one }
+
+held : (b : BusState) → IsKept b.target → (b.ack ≡ true → awaits_ack b.target.link ≡ true) → IsHeld b
+held b k a = record { alone = ap is_alone k.alone.units_are ∙ k.alone.usual; of_one = k.of_one; acknowledges = a }
+
+-- what is known while a message byte waits for ACK
+said-phase : (s : Showing) → is_said s ≡ true → phase_of s ≡ Some phase.MsgIn
+said-phase Choosing e = absurd cc
+said-phase Hearing e = absurd cc
+said-phase (Sending n) e = absurd cc
+said-phase (Receiving n) e = absurd cc
+said-phase (Telling v) e = absurd cc
+said-phase (Saying n sent) e = refl
+
+said-byte : (s : Showing) (k : Task) (lun : ℕ) → is_said s ≡ true → byte_by s k lun ≡ None
+said-byte Choosing k lun e = absurd cc
+said-byte Hearing k lun e = absurd cc
+said-byte (Sending n) k lun e = absurd cc
+said-byte (Receiving n) k lun e = absurd cc
+said-byte (Telling v) k lun e = absurd cc
+said-byte (Saying n true) k lun e = refl
+said-byte (Saying n false) k lun e = absurd cc
+
+said-takes : (s : Showing) → is_said s ≡ true → takes_by s ≡ false
+said-takes Choosing e = absurd cc
+said-takes Hearing e = absurd cc
+said-takes (Sending n) e = absurd cc
+said-takes (Receiving n) e = absurd cc
+said-takes (Telling v) e = absurd cc
+said-takes (Saying n sent) e = refl
+
+pub record Waits (l : Link) : Type 0 where
+  pub bound : is_free l ≡ false
+  pub begun : whole_by l ≡ false
+  pub phase : link_phase l ≡ Some phase.MsgIn
+  pub takes : link_takes l ≡ false
+  pub none : link_byte l ≡ None
+
+pub waits : (l : Link) → awaits_ack l ≡ true → Waits l
+waits (Working c) e = record { bound = refl; begun = refl; phase = said-phase c.shows e; takes = said-takes c.shows e; none = said-byte c.shows c.task c.lun e }
+waits Free e = absurd cc
+waits (Greeted heard) e = absurd cc
+waits (Commanded n taken) e = absurd cc
+waits (Straying s n) e = absurd cc
+
+sent-said : (s : Showing) (c : Connection) → phase_of s ≡ Some phase.MsgIn → is_said (sent_by s c).shows ≡ true
+sent-said Choosing c e = absurd cc
+sent-said Hearing c e = absurd (let f : Some phase.MsgOut ≡ Some phase.MsgIn = e in cc)
+sent-said (Sending n) c e = absurd (let f : Some phase.DataIn ≡ Some phase.MsgIn = e in cc)
+sent-said (Receiving n) c e = absurd (let f : Some phase.DataOut ≡ Some phase.MsgIn = e in cc)
+sent-said (Telling v) c e = absurd (let f : Some phase.Status ≡ Some phase.MsgIn = e in cc)
+sent-said (Saying n sent) c e = refl
+
+sent-awaits : (l : Link) → is_of_one l ≡ true → link_phase l ≡ Some phase.MsgIn → awaits_ack (link_sent l) ≡ true
+sent-awaits (Working c) o e = sent-said c.shows c e
+sent-awaits Free o e = absurd cc
+sent-awaits (Greeted heard) o e = absurd (let f : Some phase.MsgOut ≡ Some phase.MsgIn = e in cc)
+sent-awaits (Commanded n taken) o e = absurd (let f : Some phase.Command ≡ Some phase.MsgIn = e in cc)
+sent-awaits (Straying s n) o e = absurd cc
+
+-- the target's turn
+kept-begun_of : (o : Option Nexus) (t : Target) → IsKept t → IsKept (begun_of o t)
+kept-begun_of None t k = k
+kept-begun_of (Some n) t k = kept-begun t (live_ticket t n) k
+
+kept-begun_where : (whole : Bool) (t : Target) → IsKept t → IsKept (begun_where whole t)
+kept-begun_where true t k = kept-begun_of (nexus_of t.link) t k
+kept-begun_where false t k = k
+
+pub kept-begins : (t : Target) → IsKept t → IsKept (begins t)
+kept-begins t k = kept-begun_where (whole_by t.link) t k
+
+kept-if_fits : (fits : Bool) (old new : Target) → IsKept old → IsKept new → IsKept (if_fits fits old new)
+kept-if_fits true old new k l = l
+kept-if_fits false old new k l = k
+
+pub kept-with_room : (rooms : List ℕ) (old new : Target) → IsKept old → IsKept new → IsKept (with_room rooms old new)
+kept-with_room rooms old new k l = kept-if_fits (all_fit new.units rooms) old new k l
+
+kept-leaves : (t : Target) (c : Connection) (u : LogicalUnit) → unit_at t.units c.lun ≡ Some u → IsKept t → IsKept (leaves t c u)
+kept-leaves t c u e k = subst (λ (o : Option LogicalUnit). IsKept (on_unit o (leaves t c) t)) e (kept-left t c k)
+
+kept-leaves_where : (still : Bool) (left after : Target) → IsKept left → IsKept after → IsKept (leaves_where still left after)
+kept-leaves_where true left after k l = k
+kept-leaves_where false left after k l = l
+
+kept-acts : (rooms : List ℕ) (word : ℕ) (t t' : Target) (c : Connection) → IsKept t → Acts rooms word t c t' → IsKept t'
+kept-acts rooms word t t' c k a =
+    let after : Target = with_room rooms t (target_acted t a.move) in
+    let e : IsKept (settles (leaves t c a.unit) after) =
+    kept-leaves_where (is_to_choose after.link) (leaves t c a.unit) after (kept-leaves t c a.unit a.unit_is k) (kept-with_room rooms t (target_acted t a.move) k (kept-acted t a.move k)) in
+    subst IsKept (sym a.after) e
+
+kept-chooses : (l : Link) (atn : Bool) (rooms : List ℕ) (word : ℕ) (t t' : Target) → is_of_one l ≡ true → IsKept t → Chooses l atn rooms word t t' → IsKept t'
+kept-chooses (Working c) true rooms word t t' e k m = subst IsKept (sym m) (kept-linked t (asked_by (Working c)) e k)
+kept-chooses (Working c) false rooms word t t' e k m = kept-acts rooms word t t' c k m
+kept-chooses Free atn rooms word t t' e k m = absurd m
+kept-chooses (Greeted heard) atn rooms word t t' e k m = absurd m
+kept-chooses (Commanded n taken) atn rooms word t t' e k m = absurd m
+kept-chooses (Straying s n) atn rooms word t t' e k m = absurd m
+
+kept-chooses_where : (to_choose atn : Bool) (rooms : List ℕ) (word : ℕ) (t t' : Target) → IsKept t → ChoosesWhere to_choose atn rooms word t t' → IsKept t'
+kept-chooses_where true atn rooms word t t' k m = kept-chooses t.link atn rooms word t t' k.of_one k m
+kept-chooses_where false atn rooms word t t' k m = subst IsKept (sym m) k
+
+become-held : (free : Bool) (b : BusState) (t : Target) → IsKept t → (b.ack ≡ true → awaits_ack t.link ≡ true) → IsHeld (become free b t)
+become-held true b t k a = held (become true b t) k (λ e. absurd cc)
+become-held false b t k a = held (become false b t) k a
+
+-- a target whose message byte waits makes no turn
+waiting-begins : (t : Target) → Waits t.link → begins t ≡ t
+waiting-begins t w = ap (λ (x : Bool). begun_where x t) w.begun
+
+waiting-chooses : (t : Target) → Waits t.link → is_to_choose t.link ≡ false
+waiting-chooses t w = rw (w.bound, w.phase) refl
+
+waiting-turns : (b : BusState) (word : ℕ) (t' : Target) → Waits b.target.link → ChoosesWhere (is_to_choose (begins b.target).link) b.atn b.rooms word (begins b.target) t' → t' ≡ b.target
+waiting-turns b word t' w m =
+    let n : ChoosesWhere (is_to_choose b.target.link) b.atn b.rooms word b.target t' = rw (waiting-begins b.target w) at m in
+    rw (waiting-chooses b.target w) at n
+
+goes-held : (b b' : BusState) (word : ℕ) → IsHeld b → GoesOn word b b' → IsHeld b'
+goes-held b b' word h g =
+    let k : IsKept g.target = kept-chooses_where (is_to_choose (begins b.target).link) b.atn b.rooms word (begins b.target) g.target (kept-begins b.target (kept-of b h)) g.chooses in
+    let a : b.ack ≡ true → awaits_ack g.target.link ≡ true = λ e.
+    ap (λ (t : Target). awaits_ack t.link) (waiting-turns b word g.target (waits b.target.link (h.acknowledges e)) g.chooses) ∙ h.acknowledges e in
+    subst IsHeld (sym g.becomes_it) (become-held (is_free g.target.link) b g.target k a)
+
+turns_where-held : (free : Bool) (b b' : BusState) (word : ℕ) → IsHeld b → TurnsWhere free word b b' → IsHeld b'
+turns_where-held true b b' word h m = subst IsHeld (sym m) h
+turns_where-held false b b' word h m = goes-held b b' word h m
+
+pub turns-held : (b b' : BusState) (word : ℕ) → IsHeld b → Turns word b b' → IsHeld b'
+turns-held b b' word h m = turns_where-held (is_free b.target.link) b b' word h m
+
+-- bytes
+ack-cases : (o : Option ℕ) (p : Option BusPhase) (a : Bool) → ack_by o p a ≡ true → (a ≡ true) ⊎ (((x : ℕ) × (o ≡ Some x)) × (p ≡ Some phase.MsgIn))
+ack-cases None p a e = inl e
+ack-cases (Some x) (Some phase.MsgIn) a e = inr ((x, refl), refl)
+ack-cases (Some x) None a e = inl e
+ack-cases (Some x) (Some phase.DataOut) a e = inl e
+ack-cases (Some x) (Some phase.DataIn) a e = inl e
+ack-cases (Some x) (Some phase.Command) a e = inl e
+ack-cases (Some x) (Some phase.Status) a e = inl e
+ack-cases (Some x) (Some phase.MsgOut) a e = inl e
+
+comes-awaits : (o : Option ℕ) (l : Link) (a : Bool) → o ≡ link_byte l → is_of_one l ≡ true → (a ≡ true → awaits_ack l ≡ true) → ack_by o (link_phase l) a ≡ true → awaits_ack (sent_if o l) ≡ true
+comes-awaits o l a same one w e = elim (ack-cases o (link_phase l) a e) [
+  | inl x ↦ ap (λ (p : Option ℕ). awaits_ack (sent_if p l)) (same ∙ (waits l (w x)).none) ∙ w x
+  | inr x ↦ ap (λ (p : Option ℕ). awaits_ack (sent_if p l)) x.0.1 ∙ sent-awaits l one x.1
+]
+
+byte_in-held : (b b' : BusState) (byte : Option ℕ) → IsHeld b → ComesIn b byte b' ⊎ StaysOut b byte b' → IsHeld b'
+byte_in-held b b' byte h m = elim m [
+  | inl x ↦ subst IsHeld (sym x.after) (held (record b { target = linked b.target (sent_if (link_byte b.target.link) b.target.link); ack = ack_by (link_byte b.target.link) (link_phase b.target.link) b.ack })
+      (kept-sent b.target (link_byte b.target.link) (kept-of b h)) (comes-awaits (link_byte b.target.link) b.target.link b.ack refl h.of_one h.acknowledges))
+  | inr x ↦ subst IsHeld (sym x.same) h
+]
+
+byte_out-held : (b : BusState) (byte : ℕ) → IsHeld b → IsHeld (record b { target = linked b.target (took_if (link_takes b.target.link) b.target.link byte) })
+byte_out-held b byte h =
+    held (record b { target = linked b.target (took_if (link_takes b.target.link) b.target.link byte) }) (kept-took b.target (link_takes b.target.link) byte (kept-of b h))
+    (λ e. ap (λ (x : Bool). awaits_ack (took_if x b.target.link byte)) (waits b.target.link (h.acknowledges e)).takes ∙ h.acknowledges e)
+
+-- selection
+free_and : (a f : Bool) → a && f ≡ true → f ≡ true
+free_and true f e = e
+free_and false f e = absurd cc
+
+selects-held : (there : Bool) (b b' : BusState) (settled : Settled) → (there ≡ true → is_free b.target.link ≡ true) → IsHeld b → SelectsWhere there b settled b' → IsHeld b'
+selects-held true b b' settled f h m =
+    subst IsHeld (sym m.1) (held (record b { target = target_selected b.target }) (kept-selected b.target (kept-of b h))
+    (λ e. let g : is_free b.target.link ≡ false = (waits b.target.link (h.acknowledges e)).bound in let i : is_free b.target.link ≡ true = f refl in absurd cc))
+selects-held false b b' settled f h m = subst IsHeld (sym m.1) h
+
+-- signals
+messaged-held : (shown : Bool) (b : BusState) → is_message (link_phase b.target.link) ≡ shown → IsHeld b → IsHeld (messaged_where shown b)
+messaged-held false b e h = h
+messaged-held true b e h =
+    let t : Target = with_room b.rooms b.target (target_messaged b.target) in
+    become-held (is_free t.link) b t (kept-with_room b.rooms b.target (target_messaged b.target) (kept-of b h) (kept-messaged b.target (kept-of b h)))
+    (λ a. let p : is_message (link_phase b.target.link) ≡ false = ap is_message (waits b.target.link (h.acknowledges a)).phase in absurd cc)
+
+atn-held : (on : Bool) (b : BusState) → IsHeld b → IsHeld (after_atn on b)
+atn-held true b h = held (record b { atn = true }) (kept-of b h) h.acknowledges
+atn-held false b h =
+    let m : BusState = messaged_where (is_message (link_phase b.target.link)) b in
+    let k : IsHeld m = messaged-held (is_message (link_phase b.target.link)) b refl h in
+    held (record m { atn = false }) (kept-of m k) k.acknowledges
+
+become-target : (free : Bool) (b : BusState) (t : Target) → (become free b t).target ≡ t
+become-target true b t = refl
+become-target false b t = refl
+
+acked-held : (ack : Bool) (b : BusState) → IsHeld b → IsHeld (acked_where ack b)
+acked-held true b h =
+    let t : Target = with_room b.rooms b.target (target_acked b.target) in
+    let k : IsKept t = kept-with_room b.rooms b.target (target_acked b.target) (kept-of b h) (kept-acked b.target (kept-of b h)) in
+    held (record (becomes b t) { ack = false }) (subst IsKept (sym (become-target (is_free t.link) b t)) k) (λ e. absurd cc)
+acked-held false b h = h
+
+pub moves-held : (b : BusState) (event : Event) (b' : BusState) → moves b event b' → IsHeld b → IsHeld b'
+moves-held b (Phase word shown) b' m h =
+    let k : IsHeld m.0 = turns-held b m.0 word h m.1 in
+    subst IsHeld (sym m.3) (held (record m.0 { asked = shown }) (kept-of m.0 k) k.acknowledges)
+moves-held b (Shown shown) b' m h = subst IsHeld (sym m.1) h
+moves-held b (ByteIn byte) b' m h = byte_in-held b b' byte h m
+moves-held b (ByteOut byte taken) b' m h = subst IsHeld (sym m.1) (byte_out-held b byte h)
+moves-held b (Select target word settled) b' m h = selects-held (target == 0 && is_free b.target.link) b b' settled (λ e. free_and (target == 0) (is_free b.target.link) e) h m
+moves-held b (Reselect word by) b' m h = subst IsHeld (sym m.1) h
+moves-held b (SetAtn on) b' m h = subst IsHeld (sym m) (atn-held on b h)
+moves-held b ClearAck b' m h = subst IsHeld (sym m) (acked-held b.ack b h)
+moves-held b (Leave word gone) b' m h = turns-held b b' word h m.0
