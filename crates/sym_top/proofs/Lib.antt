@@ -1,3 +1,4 @@
 pub mod Decimals
+pub mod Exact
+pub mod OneCause
 pub mod Printing
-pub mod Words

@@ -15,8 +15,12 @@ pub record IsPlain (word : List ℕ) : Type 0 where
 
 -- a command with its words
 pub data Command : Type 0 where
-  one : ℕ → Command
+  one : (lba : ℕ) → Command
+  asm : (file out : List ℕ) → Command
+  list : (file : List ℕ) → Command
 
 -- these words, after the program's own name, are the command's
 abbrev pub Spells : List (List ℕ) → Command → Type 0
 Spells words (one lba) = (word : List ℕ) × (words ≡ codes "one" ∷ word ∷ []) × IsNumber word lba
+Spells words (asm file out) = words ≡ codes "asm" ∷ file ∷ out ∷ []
+Spells words (list file) = words ≡ codes "list" ∷ file ∷ []

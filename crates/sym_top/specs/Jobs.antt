@@ -1,7 +1,13 @@
 -- What a command makes of its files, before anything is stored or printed.
-use Rattle.std.specs.Prelude.{◌≡◌, ℕ, ◌<◌, ◌≤◌, List, length, Option, Some, None, IfSome}
+use Rattle.std.specs.Prelude.{◌≡◌, ℕ, ◌<◌, ◌≤◌, List, length, Option, Some, None, IfSome, Ok, Err}
 use Rattle.sym_io.specs.ByName.{FilesByName, whole_file}
-use Rattle.sym_top.specs.CommandLine.{Command, one}
+use Rattle.scripts_asm.specs.declared.assembling.Image.{Image}
+use Rattle.scripts_asm.specs.declared.assembling.AsmFault.{AsmFault}
+use Rattle.scripts_asm.specs.Image.{Assembles, line_of, number_of}
+use Rattle.source_files.specs.Sources.{source_text}
+use Rattle.source_files.specs.Images.{image_bytes, words_line}
+use Rattle.source_files.specs.FileListing.{IsFileListing}
+use Rattle.sym_top.specs.CommandLine.{Command, one, asm, list}
 
 -- a file to be stored
 pub record Output : Type 0 where
@@ -26,14 +32,34 @@ pub record IsFile (files : Option FilesByName) (name bytes : List ℕ) : Type 0 
 abbrev pub ExceedsLimit : Option FilesByName → List ℕ → Type 0
 ExceedsLimit files name = IfSome files (λ held. file_limit < length (whole_file held name))
 
+-- the job of `asm`: the words of the source are stored, four bytes each, and their number is printed
+pub record IsAssembly (source name : List ℕ) (job : Job) : Type 0 where
+  pub image : Image
+  pub made : Assembles (source_text source) (Ok image)
+  pub stored : job.output ≡ Some (record { name = name; bytes = image_bytes image.words })
+  pub printed : job.text ≡ words_line (length image.words)
+
+-- the source has its first fault there
+pub record HasSourceFault (source : List ℕ) (line fault : ℕ) : Type 0 where
+  pub cause : AsmFault
+  pub refused : Assembles (source_text source) (Err cause)
+  pub line_is : line_of cause ≡ Some line
+  pub fault_is : number_of cause ≡ Some fault
+
 -- the command makes this job of the files
 abbrev pub Makes : Command → Option FilesByName → Job → Type 0
 Makes (one lba) files job = job.output ≡ None
+Makes (asm file out) files job = (source : List ℕ) × IsFile files file source × IsAssembly source out job
+Makes (list file) files job = (image : List ℕ) × IsFile files file image × IsFileListing image job.text × (job.output ≡ None)
 
 -- a file of the command is too long
 abbrev pub IsLong : Command → Option FilesByName → Type 0
 IsLong (one lba) files = ⊥
+IsLong (asm file out) files = ExceedsLimit files file
+IsLong (list file) files = ExceedsLimit files file
 
 -- the source of the command has its first fault there
 abbrev pub HasFault : Command → Option FilesByName → ℕ → ℕ → Type 0
 HasFault (one lba) files line fault = ⊥
+HasFault (asm file out) files line fault = (source : List ℕ) × IsFile files file source × HasSourceFault source line fault
+HasFault (list file) files line fault = ⊥

@@ -1,8 +1,10 @@
 pub mod Asked
 pub mod Calls
+pub mod Causes
 pub mod CommandLine
 pub mod Exits
 pub mod Jobs
+pub mod Making
 pub mod PlainUnits
 pub mod Refusals
 pub mod UnitLaws

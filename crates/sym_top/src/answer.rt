@@ -1,15 +1,17 @@
 //! The top call: the words of the command line to the status of the process.
-ghost use Rattle.std.specs.Prelude.{◌≡◌, ◌↔◌, Err};
+ghost use Rattle.std.specs.Prelude.{◌≡◌, ◌⊎◌, ◌↔◌, ℕ, Err};
+ghost use Rattle.sym_io.specs.Causes.{Rose};
 ghost use Rattle.sym_top.specs.Asked.{asked};
 ghost use Rattle.sym_top.specs.Calls.{ends, Runs, Ended, Leaves};
 ghost use Rattle.sym_top.specs.CommandLine.{Command as Asked, Spells};
+ghost use Rattle.sym_top.specs.Jobs.{HasFault, IsLong};
 ghost use Rattle.sym_top.specs.Refusals.{Says};
 ghost use Rattle.sym_top.specs.declared.refusal.Refusal.TheVariants.{Usage as NoCommand};
 
 use crate::commands::{Command, command_of};
 use crate::exit::Exit;
-use crate::job::{Job, finish};
-use crate::one::one;
+use crate::job::finish;
+use crate::making::job_of;
 use crate::refusal::{Refusal, say};
 use scsi_words::Text;
 use std::alloc::Global;
@@ -33,6 +35,10 @@ pub fn answer_alone<F: Shelf, O: Sink, E: Sink>(
     ensures unasked { result ≡ Exit.Usage → Leaves (ends (F.files shelf.old) (F.faults shelf.old) (F.files shelf.new) (F.faults shelf.new)
         (O.written out.old) (O.faults out.old) (O.written out.new) (O.faults out.new)) }
     ensures unasked_line { result ≡ Exit.Usage → Says NoCommand (E.written err.old) (E.faults err.old) (E.written err.new) (E.faults err.new) }
+    ensures read_fault { result ≡ Exit.ReadFault → Rose (F.faults shelf.old) (F.faults shelf.new) }
+    ensures write_fault { result ≡ Exit.WriteFault → Rose (F.faults shelf.old) (F.faults shelf.new) ⊎ Rose (O.faults out.old) (O.faults out.new) }
+    ensures bad_source { (c : Asked) → Spells words.now c → result ≡ Exit.BadSource → (line : ℕ) × ((fault : ℕ) × HasFault c (F.files shelf.old) line fault) }
+    ensures too_long { (c : Asked) → Spells words.now c → result ≡ Exit.TooLong → IsLong c (F.files shelf.old) }
     ensures answer { (c : Asked) → Spells words.now c
         → Ended c (ends (F.files shelf.old) (F.faults shelf.old) (F.files shelf.new) (F.faults shelf.new)
         (O.written out.old) (O.faults out.old) (O.written out.new) (O.faults out.new))
@@ -50,18 +56,13 @@ pub fn answer_alone<F: Shelf, O: Sink, E: Sink>(
 /// Makes the command's job of its files, and then finishes it.
 fn run<F: Shelf, O: Sink>(
     alloc: Global,
-    command: Command,
+    command: Command<'_>,
     shelf: &mut F,
     out: &mut O,
 ) -> Result<(), Refusal>
-    ensures { Runs (asked command) (ends (F.files shelf.old) (F.faults shelf.old) (F.files shelf.new) (F.faults shelf.new)
+    ensures { Runs (asked command.entry) (ends (F.files shelf.old) (F.faults shelf.old) (F.files shelf.new) (F.faults shelf.new)
         (O.written out.old) (O.faults out.old) (O.written out.new) (O.faults out.new)) result }
 {
-    match command {
-        Command::One { lba } => {
-            let text = one(alloc, lba)?;
-            let job = Job { text, output: None };
-            finish(&job, shelf, out)
-        }
-    }
+    let job = job_of(alloc, command, shelf)?;
+    finish(&job, shelf, out)
 }

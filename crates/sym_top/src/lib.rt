@@ -5,6 +5,8 @@ mod answer;
 mod commands;
 mod exit;
 mod job;
+mod laws;
+mod making;
 mod numbers;
 mod one;
 mod plain_unit;
@@ -12,4 +14,5 @@ mod refusal;
 
 pub use answer::answer_alone;
 pub use exit::Exit;
+pub use laws::{exact_status, one_cause};
 pub use straight_run::{Straight, straight};

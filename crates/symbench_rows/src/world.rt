@@ -4,7 +4,7 @@ ghost use Rattle.std.specs.Prelude.{◌<◌};
 
 use scsi_words::{Counts, Text};
 use std::alloc::{AllocError, Global};
-use sym_io::{Files, MemorySink, QuietShelf};
+use sym_io::{Files, MemorySink, QuietShelf, Shelf};
 use sym_top::{Exit, answer_alone};
 
 /// How a sink behaves: the most bytes of one write, and the calls, counted from 1, that fail.
@@ -12,6 +12,7 @@ use sym_top::{Exit, answer_alone};
 pub struct Sinking {
     pub most: u32,
     pub failing: Option<u32>,
+    ghost takes: { 0 < most },
 }
 
 /// A sink that takes every piece whole.
@@ -29,7 +30,6 @@ pub struct Left {
 }
 
 fn sink(alloc: Global, how: Sinking) -> Result<MemorySink, AllocError>
-    requires { 0 < how.most }
 {
     let mut failing = Vec::new(alloc);
     if let Some(call) = how.failing {
@@ -38,18 +38,28 @@ fn sink(alloc: Global, how: Sinking) -> Result<MemorySink, AllocError>
     MemorySink::new(alloc, 0x1_0000, how.most, Counts::of(failing))
 }
 
-/// Runs a command of these words over an empty shelf.
-pub fn run(alloc: Global, words: &[&str], out: Sinking, err: Sinking) -> Result<Left, AllocError>
-    requires out { 0 < out.most }
-    requires err { 0 < err.most }
+/// Runs a command of these words over a shelf.
+pub fn run_over<F: Shelf>(
+    alloc: Global,
+    words: &[&str],
+    shelf: &mut F,
+    out: Sinking,
+    err: Sinking,
+) -> Result<Left, AllocError>
 {
     let mut texts = Vec::new(alloc);
     for word in words {
         texts.push(Text::of(String::from_str(alloc, word)?))?;
     }
-    let mut shelf = QuietShelf::new(Files::of(Vec::new(alloc)));
     let mut out = sink(alloc, out)?;
     let mut err = sink(alloc, err)?;
-    let exit = answer_alone(alloc, texts.as_slice(), &mut shelf, &mut out, &mut err);
+    let exit = answer_alone(alloc, texts.as_slice(), shelf, &mut out, &mut err);
     Ok(Left { exit, out, err })
+}
+
+/// Runs a command of these words over an empty shelf.
+pub fn run(alloc: Global, words: &[&str], out: Sinking, err: Sinking) -> Result<Left, AllocError>
+{
+    let mut shelf = QuietShelf::new(Files::of(Vec::new(alloc)));
+    run_over(alloc, words, &mut shelf, out, err)
 }

@@ -1,0 +1,109 @@
+//! What each command makes of its files.
+ghost use Rattle.std.specs.Prelude.{◌≡◌, ◌≤◌, length, IfOk, MatchResult};
+ghost use Rattle.sym_top.specs.Asked.{asked};
+ghost use Rattle.sym_top.specs.CommandLine.{asm as Assembling, list as Listing};
+ghost use Rattle.sym_top.specs.Jobs.{IsAssembly};
+ghost use Rattle.sym_top.specs.Making.{shelved, Loads, Prepares, Blames, IsImageJob, RefusesSource};
+
+use crate::commands::Command;
+use crate::job::{Job, Output};
+use crate::one::one;
+use crate::refusal::Refusal;
+use scripts_asm::{AsmFault, Image};
+use scsi_words::Bytes;
+use source_files::{assemble_source, image_bytes, list_file, words_line};
+use std::alloc::{AllocError, Global};
+use sym_io::{Shelf, ShelfFault};
+
+/// The most bytes that a command's file may have.
+const FILE_LIMIT: u32 = 4_194_304;
+
+/// The whole of a file.
+fn load<F: Shelf>(name: &str, shelf: &mut F) -> Result<Bytes, Refusal>
+    ensures { Loads name.now (shelved (F.files shelf.old) (F.faults shelf.old)) (shelved (F.files shelf.new) (F.faults shelf.new)) result }
+{
+    match shelf.load(name, FILE_LIMIT) {
+        Ok(bytes) => Ok(bytes),
+        Err(ShelfFault::Failed) => Err(Refusal::Read),
+        Err(ShelfFault::TooLong) => Err(Refusal::TooLong),
+        Err(ShelfFault::OutOfMemory) => Err(Refusal::OutOfMemory),
+    }
+}
+
+/// The refusal of a source with this fault.
+fn refusal_of(fault: &AsmFault) -> Refusal
+    ensures { Blames fault.now result }
+{
+    match (fault.line(), fault.number()) {
+        (Some(line), Some(fault)) => Refusal::Source { line, fault },
+        _ => Refusal::OutOfMemory,
+    }
+}
+
+/// The job of `asm` with this image.
+fn image_job<'a>(alloc: Global, image: &Image, name: &'a str) -> Result<Job<'a>, AllocError>
+    ensures { IfOk result (λ job. IsImageJob image.now name.now job) }
+{
+    let words = image.words.as_slice();
+    let text = words_line(alloc, words.len())?;
+    let bytes = image_bytes(alloc, words)?;
+    Ok(Job {
+        text,
+        output: Some(Output { name, bytes }),
+    })
+}
+
+/// What `asm` makes of the bytes of its source.
+fn assembly<'a>(alloc: Global, source: &[u8], name: &'a str) -> Result<Job<'a>, Refusal>
+    requires { length source.now ≤ 4194304 }
+    ensures { MatchResult result (λ job. IsAssembly source.now name.now job) (λ refusal. RefusesSource source.now refusal) }
+{
+    match assemble_source(alloc, source) {
+        Ok(image) => Ok(image_job(alloc, &image, name)?),
+        Err(fault) => Err(refusal_of(&fault)),
+    }
+}
+
+/// Loads the source of `asm`, and assembles it.
+fn assemble_file<'a, F: Shelf>(
+    alloc: Global,
+    file: &str,
+    out: &'a str,
+    shelf: &mut F,
+) -> Result<Job<'a>, Refusal>
+    ensures { Prepares (Assembling file.now out.now) (shelved (F.files shelf.old) (F.faults shelf.old)) (shelved (F.files shelf.new) (F.faults shelf.new)) result }
+{
+    let source = load(file, shelf)?;
+    assembly(alloc, source.as_slice(), out)
+}
+
+/// Loads the image of `list`, and lists it.
+fn list_loaded<'a, F: Shelf>(
+    alloc: Global,
+    file: &str,
+    shelf: &mut F,
+) -> Result<Job<'a>, Refusal>
+    ensures { Prepares (Listing file.now) (shelved (F.files shelf.old) (F.faults shelf.old)) (shelved (F.files shelf.new) (F.faults shelf.new)) result }
+{
+    let image = load(file, shelf)?;
+    let text = list_file(alloc, image.as_slice())?;
+    Ok(Job { text, output: None })
+}
+
+/// The job of a command: what is to be stored and printed. No file changes.
+pub fn job_of<'a, F: Shelf>(
+    alloc: Global,
+    command: Command<'a>,
+    shelf: &mut F,
+) -> Result<Job<'a>, Refusal>
+    ensures { Prepares (asked command.entry) (shelved (F.files shelf.old) (F.faults shelf.old)) (shelved (F.files shelf.new) (F.faults shelf.new)) result }
+{
+    match command {
+        Command::One { lba } => {
+            let text = one(alloc, lba)?;
+            Ok(Job { text, output: None })
+        }
+        Command::Asm { file, out } => assemble_file(alloc, file, out, shelf),
+        Command::List { file } => list_loaded(alloc, file, shelf),
+    }
+}
