@@ -78,11 +78,7 @@ fn assemble_file<'a, F: Shelf>(
 }
 
 /// Loads the image of `list`, and lists it.
-fn list_loaded<'a, F: Shelf>(
-    alloc: Global,
-    file: &str,
-    shelf: &mut F,
-) -> Result<Job<'a>, Refusal>
+fn list_loaded<'a, F: Shelf>(alloc: Global, file: &str, shelf: &mut F) -> Result<Job<'a>, Refusal>
     ensures { Prepares (Listing file.now) (shelved (F.files shelf.old) (F.faults shelf.old)) (shelved (F.files shelf.new) (F.faults shelf.new)) result }
 {
     let image = load(file, shelf)?;

@@ -24,21 +24,25 @@ struct Row<'a> {
 }
 
 const ASM: &[&str] = &["asm", "a", "b"];
+
 const LIST: &[&str] = &["list", "a"];
 /// The source `CLEAR ACK`, its image, and what is printed.
 const SOURCE: &[u8] = b"CLEAR ACK\n";
+
 const IMAGE: &[u8] = &[0x40, 0, 0, 0x60, 0, 0, 0, 0];
+
 const PRINTED: &[u8] = b"words 2\n";
 /// The listing of four bytes that are one word, and a fifth.
 const LISTED: &[u8] = b"00000000  60000040  .word 0x60000040\n00000004  07  .byte 0x7\n";
 /// Sources with a fault, and what is said of them.
 const TWICE: &[u8] = b"a:\na:";
+
 const TWICE_SAID: &[u8] = b"bad source line 2 fault 4\n";
+
 const TOKEN_SAID: &[u8] = b"bad source line 1 fault 1\n";
 
 /// A row in which all goes well.
-fn good<'a>(words: &'a [&'a str], file: &'a [u8], printed: &'a [u8]) -> Row<'a>
-{
+fn good<'a>(words: &'a [&'a str], file: &'a [u8], printed: &'a [u8]) -> Row<'a> {
     Row {
         words,
         file,
@@ -59,8 +63,7 @@ fn refused<'a>(
     failing: &'a [u32],
     exit: Exit,
     said: &'a [u8],
-) -> Row<'a>
-{
+) -> Row<'a> {
     Row {
         failing,
         exit,
@@ -80,8 +83,7 @@ fn shelf_of(alloc: Global, row: &Row<'_>) -> Result<MemoryShelf, AllocError> {
 }
 
 /// Runs a row, and asserts what it leaves.
-fn check(rt: &impl Abort, alloc: Global, row: &Row<'_>) -> Result<(), AllocError>
-{
+fn check(rt: &impl Abort, alloc: Global, row: &Row<'_>) -> Result<(), AllocError> {
     let mut shelf = shelf_of(alloc, row)?;
     let left = run_over(alloc, row.words, &mut shelf, row.out, row.err)?;
     assert_eq!(rt; left.exit, row.exit);
@@ -125,7 +127,13 @@ fn files_are_read_and_stored_or_refused(rt: HostRuntime) -> Result<(), Fail> {
         // a load fails, or its file is missing; the store fails
         refused(ASM, SOURCE, &[1], Exit::ReadFault, b"read fault\n"),
         refused(LIST, IMAGE, &[1], Exit::ReadFault, b"read fault\n"),
-        refused(&["asm", "c", "b"], SOURCE, &[], Exit::ReadFault, b"read fault\n"),
+        refused(
+            &["asm", "c", "b"],
+            SOURCE,
+            &[],
+            Exit::ReadFault,
+            b"read fault\n",
+        ),
         refused(&["list", "c"], IMAGE, &[], Exit::ReadFault, b"read fault\n"),
         refused(ASM, SOURCE, &[2], Exit::WriteFault, b"write fault\n"),
         // a file beyond the limit
@@ -133,7 +141,13 @@ fn files_are_read_and_stored_or_refused(rt: HostRuntime) -> Result<(), Fail> {
         refused(LIST, long.as_slice(), &[], Exit::TooLong, b"too long\n"),
         // words that are no command
         refused(&["asm", "a"], SOURCE, &[], Exit::Usage, b"usage\n"),
-        refused(&["asm", "a", "b", "c"], SOURCE, &[], Exit::Usage, b"usage\n"),
+        refused(
+            &["asm", "a", "b", "c"],
+            SOURCE,
+            &[],
+            Exit::Usage,
+            b"usage\n",
+        ),
         refused(&["list"], IMAGE, &[], Exit::Usage, b"usage\n"),
         refused(&["list", "a", "b"], IMAGE, &[], Exit::Usage, b"usage\n"),
         // a failing standard error changes nothing

@@ -29,8 +29,7 @@ pub struct Left {
     pub err: MemorySink,
 }
 
-fn sink(alloc: Global, how: Sinking) -> Result<MemorySink, AllocError>
-{
+fn sink(alloc: Global, how: Sinking) -> Result<MemorySink, AllocError> {
     let mut failing = Vec::new(alloc);
     if let Some(call) = how.failing {
         failing.push(call)?;
@@ -45,8 +44,7 @@ pub fn run_over<F: Shelf>(
     shelf: &mut F,
     out: Sinking,
     err: Sinking,
-) -> Result<Left, AllocError>
-{
+) -> Result<Left, AllocError> {
     let mut texts = Vec::new(alloc);
     for word in words {
         texts.push(Text::of(String::from_str(alloc, word)?))?;
@@ -58,8 +56,7 @@ pub fn run_over<F: Shelf>(
 }
 
 /// Runs a command of these words over an empty shelf.
-pub fn run(alloc: Global, words: &[&str], out: Sinking, err: Sinking) -> Result<Left, AllocError>
-{
+pub fn run(alloc: Global, words: &[&str], out: Sinking, err: Sinking) -> Result<Left, AllocError> {
     let mut shelf = QuietShelf::new(Files::of(Vec::new(alloc)));
     run_over(alloc, words, &mut shelf, out, err)
 }
