@@ -1,6 +1,6 @@
 -- A source has one answer, since it is read in one way.
-use Rattle.std.proofs.Common.{◌≡◌, ◌≢◌, ℕ, List, Option, Some, Result, Ok, Err, refl, sym, ap, ◌∙◌}
-use Rattle.scripts_forms.specs.Lines.{Line, lines_of}
+use Rattle.std.proofs.Common.{◌≡◌, ◌≢◌, ℕ, List, Some, Ok, Err, refl, sym, ap, ◌∙◌}
+use Rattle.scripts_forms.specs.Lines.{lines_of}
 use Rattle.scripts_asm.specs.declared.faults.Kind.{Kind}
 use Rattle.scripts_asm.specs.declared.faults.Kind.TheVariants as kinds
 use Rattle.scripts_asm.specs.declared.assembling.Image.{Image}

@@ -1,5 +1,5 @@
 -- A source as text, and that it has one answer. Source: own, the assembler of docs/SCRIPTS.md.
-use Rattle.std.specs.Prelude.{◌≡◌, ◌≢◌, ℕ, nat_lt, if◌then◌else◌, List, map, Option, Ok, Err}
+use Rattle.std.specs.Prelude.{◌≡◌, ◌≢◌, ℕ, nat_lt, if◌then◌else◌, List, map, Ok, Err}
 use Rattle.scripts_asm.specs.declared.assembling.Image.{Image}
 use Rattle.scripts_asm.specs.declared.assembling.AsmFault.{AsmFault}
 use Rattle.scripts_asm.specs.declared.assembling.AsmFault.TheVariants.{OutOfMemory}

@@ -1,7 +1,7 @@
 -- An ended command's status is the one that its files want.
-use Rattle.std.proofs.Common.{◌≡◌, ℕ, List, Option, Some, Result, Ok, Err, refl, sym, subst, inl, inr}
+use Rattle.std.proofs.Common.{◌≡◌, ℕ, Option, Some, subst, inl, inr}
 use Rattle.sym_io.specs.ByName.{FilesByName}
-use Rattle.sym_top.specs.Calls.{Ends, Ended, Refuses, Runs}
+use Rattle.sym_top.specs.Calls.{Ends, Refuses}
 use Rattle.sym_top.specs.CommandLine.{Command}
 use Rattle.sym_top.specs.Jobs.{Job, Makes, IsLong, HasFault}
 use Rattle.sym_top.specs.Refusals.{exit_of}

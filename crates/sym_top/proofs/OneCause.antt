@@ -1,8 +1,7 @@
 -- A command has one cause at most, since its file has one content and its source one answer.
-use Rattle.std.proofs.Common.{◌≡◌, ◌≢◌, ℕ, ◌<◌, ◌≤◌, List, length, Option, Some, None, Ok, Err, refl, sym, ap, subst, ◌∙◌, arith}
-use Rattle.scripts_asm.specs.declared.assembling.AsmFault.{AsmFault}
+use Rattle.std.proofs.Common.{◌≡◌, ◌≢◌, ℕ, List, length, Some, None, sym, ap, subst, ◌∙◌, arith}
 use Rattle.scripts_asm.specs.declared.assembling.AsmFault.TheVariants.{OutOfMemory}
-use Rattle.scripts_asm.specs.Image.{Assembles, line_of, number_of}
+use Rattle.scripts_asm.specs.Image.{line_of}
 use Rattle.source_files.specs.Sources.{source_text}
 use Rattle.source_files.proofs.OneAnswer.{one_assembly}
 use Rattle.sym_io.specs.ByName.{FilesByName, whole_file}

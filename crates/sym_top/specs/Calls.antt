@@ -1,8 +1,8 @@
 -- What a command was given and what it left, and when each answer comes.
-use Rattle.std.specs.Prelude.{◌≡◌, ◌⊎◌, ℕ, ◌<◌, ◌≤◌, List, length, take, Option, Some, None, Result, Ok, Err}
+use Rattle.std.specs.Prelude.{◌≡◌, ◌⊎◌, ℕ, List, take, Option, Some, None, Result, Ok, Err}
 use Rattle.std.specs.Option.{option_map}
 use Rattle.std.specs.Io.KnownBytes.{Appends}
-use Rattle.sym_io.specs.ByName.{FilesByName, whole_file, with_file}
+use Rattle.sym_io.specs.ByName.{FilesByName, with_file}
 use Rattle.sym_io.specs.Causes.{Rose}
 use Rattle.sym_top.specs.Jobs.{Job, Output, Makes, IsLong, HasFault}
 use Rattle.sym_top.specs.CommandLine.{Command}

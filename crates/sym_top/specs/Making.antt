@@ -1,5 +1,5 @@
 -- How a command's job is made: the files are loaded and read, and nothing is stored or printed yet.
-use Rattle.std.specs.Prelude.{◌≡◌, ℕ, ◌≤◌, List, length, Option, Some, None, Result, Ok, Err}
+use Rattle.std.specs.Prelude.{◌≡◌, ℕ, ◌≤◌, List, length, Option, Some, Result, Ok, Err}
 use Rattle.scripts_asm.specs.declared.assembling.Image.{Image}
 use Rattle.scripts_asm.specs.declared.assembling.AsmFault.{AsmFault}
 use Rattle.scripts_asm.specs.Image.{line_of, number_of}

@@ -8,7 +8,7 @@ use Rattle.chip_step.specs.declared.scsi_bus.Settled.TheVariants.{Selected, Rese
 use Rattle.sym_top.specs.declared.plain_unit.PlainUnit.{PlainUnit}
 use Rattle.sym_top.specs.declared.plain_unit.Shown.{Shown as Showing}
 use Rattle.sym_top.specs.declared.plain_unit.Shown.TheVariants as showing
-use Rattle.sym_top.specs.PlainUnits.{replies, signals_of, phase_of, is_free, is_complete, show, chosen, chosen_at, byte_given, sent, takes_at, after_byte_out_at}
+use Rattle.sym_top.specs.PlainUnits.{replies, signals_of, phase_of, is_free, is_complete, show, chosen_at, byte_given, sent, takes_at, after_byte_out_at}
 
 is_free_of_none : (s : Showing) → None ≡ phase_of s → is_free s ≡ true
 is_free_of_none showing.Free h = refl

@@ -78,7 +78,7 @@ fn assemble_file<'a, F: Shelf>(
 }
 
 /// Loads the image of `list`, and lists it.
-fn list_loaded<'a, F: Shelf>(alloc: Global, file: &str, shelf: &mut F) -> Result<Job<'a>, Refusal>
+fn list_image<'a, F: Shelf>(alloc: Global, file: &str, shelf: &mut F) -> Result<Job<'a>, Refusal>
     ensures { Prepares (Listing file.now) (shelved (F.files shelf.old) (F.faults shelf.old)) (shelved (F.files shelf.new) (F.faults shelf.new)) result }
 {
     let image = load(file, shelf)?;
@@ -100,6 +100,6 @@ pub fn job_of<'a, F: Shelf>(
             Ok(Job { text, output: None })
         }
         Command::Asm { file, out } => assemble_file(alloc, file, out, shelf),
-        Command::List { file } => list_loaded(alloc, file, shelf),
+        Command::List { file } => list_image(alloc, file, shelf),
     }
 }
