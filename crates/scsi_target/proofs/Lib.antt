@@ -1,0 +1,13 @@
+pub mod Rooms
+pub mod Places
+pub mod Devices
+pub mod Opening
+pub mod Moving
+pub mod Acting
+pub mod Reselecting
+pub mod Partings
+pub mod Parted
+pub mod Acks
+pub mod Begins
+pub mod Resets
+pub mod Tells

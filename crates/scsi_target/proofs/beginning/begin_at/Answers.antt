@@ -1,0 +1,18 @@
+use Rattle.std.proofs.Common.{refl}
+use Rattle.cdb_codec.specs.Blocks.{cdb_of}
+use Rattle.unit_tasks.specs.declared.queued.QueuedUnit.{QueuedUnit}
+use Rattle.unit_tasks.specs.Units.{unit_of}
+use Rattle.scsi_target.specs.Devices.{HasPlaceFor}
+use Rattle.scsi_target.proofs.Parted.{here}
+use Rattle.scsi_target.proofs.Begins.{begun_device, begun_state}
+use Rattle.scsi_target.proofs.beginning.begin_at.Goals as goal
+
+pub returns-clause-state : goal.returns-clause-state
+returns-clause-state c =
+    let f = here _ c.args.nexus.lun c.args.nexus.lun (λ (q : QueuedUnit). HasPlaceFor c.args.nexus (unit_of q)) c.in-Some.unit _ c.requires.place refl c.index_mut.ensures.value c.in-Some.is in
+    begun_state c.args.units.now.items c.args.nexus c.args.block.now (cdb_of c.args.block.now.bytes.items) c.args.ticket c.in-Some.unit c.begin.new.unit c.begin.result f.0 c.begin.ensures.unit c.begin.ensures.room c.begin.ensures.link
+
+pub returns-clause-device : goal.returns-clause-device
+returns-clause-device c =
+    let f = here _ c.args.nexus.lun c.args.nexus.lun (λ (q : QueuedUnit). HasPlaceFor c.args.nexus (unit_of q)) c.in-Some.unit _ c.requires.place refl c.index_mut.ensures.value c.in-Some.is in
+    begun_device _ c.args.units.now.items c.args.nexus c.args.block.now c.in-Some.unit c.begin.new.unit c.begin.result c.requires.device f.0 c.begin.ensures.slot c.begin.ensures.only

@@ -1,0 +1,63 @@
+use Rattle.std.proofs.Common.{◌≡◌, ◌≤◌, ◌+◌, Some, subst, ap, ◌∙◌, refl, arith, length, OnOk, Result, Ok, Err, List, Option, map, slice_set, slice_index_or}
+use Rattle.std.specs.Prelude.{slice_get}
+use Rattle.target_law.specs.Lawful.{IsThere}
+use Rattle.target_law.specs.Target.{LogicalUnit, unit_at}
+use Rattle.unit_tasks.specs.declared.queued.QueuedUnit.{QueuedUnit}
+use Rattle.scsi_target.specs.Slots.{room_of}
+use Rattle.scsi_target.specs.Views.{IsSlot, link_of}
+use Rattle.scsi_target.specs.Devices.{DeviceState}
+use Rattle.scsi_target.proofs.Places.{room_set, room_other, room_more, there_in, back_in, read_unit, not_none, in_range, within, units_stay}
+use Rattle.scsi_target.proofs.Devices.{device_set, linked_by, connected_log}
+use Rattle.scsi_target.proofs.device.Device.reserve.Goals as goal
+
+pub index_mut-requires : goal.index_mut-requires
+index_mut-requires c = let t = there_in _ _ _ c.self.view_is c.args.lun _ c.requires in in_range _ _ _ _ c.args.lun t.0 c.self.invariant t.1
+
+pub unreachable-requires : goal.unreachable-requires
+unreachable-requires c = let t = there_in _ _ _ c.self.view_is c.args.lun _ c.requires in not_none _ c.args.lun t.0 _ t.1 c.index_mut.ensures.value c.in-None.is
+
+place : (c : goal.After-self-1) → slice_get c.self.inside.units.items c.args.lun ≡ Some (Some c.in-Some.unit)
+place c = read_unit _ _ _ c.self.view_is c.args.lun _ c.in-Some.unit _ c.requires c.index_mut.ensures.value c.in-Some.is
+
+abbrev after : goal.After-self-1 → QueuedUnit
+after c = record { rig = c.in-Some.unit.rig; core = record { lun = c.in-Some.unit.core.lun; log = c.reserve.new.self }; tasks = c.in-Some.unit.tasks }
+
+slot_after : (c : goal.After-self-1) → IsSlot c.self.inside.rogue c.self.inside.link c.args.lun (after c)
+slot_after c = let i = c.self.invariant.slots_are c.args.lun c.in-Some.unit (place c) in record {
+  lun = i.lun;
+  unit = i.unit;
+  rogue = i.rogue;
+  depth = i.depth;
+  places = i.places;
+  waiting = i.waiting;
+  log = let a = i.log in let b = c.reserve.ensures.room in let e = ap length c.reserve.ensures.entries in omega arith;
+}
+
+pub invariant_of-self : goal.invariant_of-self
+invariant_of-self c =
+    device_set _ _ _ _ _ c.args.lun (after c) c.self.invariant (within _ c.args.lun c.in-Some.unit (place c)) (slot_after c) (λ k d. refl)
+    (linked_by _ _ _ c.args.lun c.in-Some.unit (after c) (place c) c.self.invariant.linked (λ x h. connected_log c.self.inside.rogue x c.in-Some.unit c.reserve.new.self c.reserve.ensures.entries h))
+
+pub returns-clause-target : goal.returns-clause-target
+returns-clause-target c =
+    let same = ap (λ log. record { rig = c.in-Some.unit.rig; plain = c.in-Some.unit.core.lun; log = log; tasks = c.in-Some.unit.tasks.tasks }) c.reserve.ensures.entries in
+    ap (λ (us : List (Option LogicalUnit)). record { units = us; link = link_of c.self.inside.link }) (units_stay _ c.args.lun c.in-Some.unit (after c) (place c) same) ∙ ap (λ (d : DeviceState). d.target) c.self.view_is
+
+room_after : (c : goal.After-self-1) → length c.reserve.new.self.entries + c.args.n ≤ c.reserve.new.self.room → length c.in-Some.unit.core.log.entries + c.args.n ≤ slice_index_or (map room_of (slice_set c.self.inside.units.items c.args.lun (Some (after c)))) c.args.lun 0
+room_after c h = let e = ap length c.reserve.ensures.entries in rw (room_set c.self.inside.units.items c.args.lun (after c) (within _ c.args.lun c.in-Some.unit (place c))) omega arith
+
+on_ok : {T E P Q : Type 0} (r : Result T E) → (P → Q) → OnOk r P → OnOk r Q
+on_ok (Ok v) f h = f h
+on_ok (Err e) f h = tt
+
+room_back : (c : goal.After-self-1) → length c.reserve.new.self.entries + c.args.n ≤ c.reserve.new.self.room → IsThere (unit_at c.args.self.now.target.units c.args.lun) (λ u. length u.log + c.args.n ≤ slice_index_or (map room_of (slice_set c.self.inside.units.items c.args.lun (Some (after c)))) c.args.lun 0)
+room_back c h = back_in _ _ _ c.self.view_is c.args.lun (λ (u : LogicalUnit). length u.log + c.args.n ≤ slice_index_or (map room_of (slice_set c.self.inside.units.items c.args.lun (Some (after c)))) c.args.lun 0) c.in-Some.unit (place c) (room_after c h)
+
+pub returns-clause-spare : goal.returns-clause-spare
+returns-clause-spare c = on_ok c.reserve.result (room_back c) c.reserve.ensures.ok
+
+pub returns-clause-rooms : goal.returns-clause-rooms
+returns-clause-rooms c = λ k. subst (λ (d : DeviceState). slice_index_or d.rooms k 0 ≤ slice_index_or (map room_of (slice_set c.self.inside.units.items c.args.lun (Some (after c)))) k 0) c.self.view_is (room_more c.self.inside.units.items c.args.lun k c.in-Some.unit (after c) (place c) c.reserve.ensures.room)
+
+pub returns-clause-others : goal.returns-clause-others
+returns-clause-others c = λ k d. room_other c.self.inside.units.items c.args.lun k (after c) d ∙ ap (λ (x : DeviceState). slice_index_or x.rooms k 0) c.self.view_is

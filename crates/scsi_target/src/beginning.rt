@@ -1,0 +1,126 @@
+//! The beginning of a task.
+
+ghost use Rattle.std.specs.Prelude.{◌≡◌, ◌<◌, Bool, true, false, not, map, vec_len, Some, IsSome};
+ghost use Rattle.cdb_codec.specs.Blocks.{cdb_of};
+ghost use Rattle.cdb_codec.specs.Forms.{FitsForm};
+ghost use Rattle.target_law.specs.Calls.{is_whole, whole_by, begun_with, target_begun};
+ghost use Rattle.unit_tasks.specs.Units.{unit_of};
+ghost use Rattle.scsi_target.specs.Beginnings.{makes_none, link_begun};
+ghost use Rattle.scsi_target.specs.Devices.{HasPlace, HasPlaceFor};
+ghost use Rattle.scsi_target.specs.Partings.{IsOnlyHere};
+ghost use Rattle.scsi_target.specs.Slots.{room_of, At};
+ghost use Rattle.scsi_target.specs.Views.{link_of, device_of, IsSlot, IsDevice};
+ghost use Rattle.scsi_target.specs.declared.link.Link.TheVariants as held;
+
+use crate::device::Device;
+use crate::link::{Block, Link};
+use cdb_codec::{Cdb, need, read_cdb};
+use std::mem;
+use target_law::Nexus;
+use target_session::Connection;
+use unit_tasks::{QueuedUnit, TaskList};
+
+/// The most bytes that a command may need.
+const MOST_BYTES: u32 = 65_536;
+
+impl Device {
+    /// Makes the task of a whole command, with the live ticket of its tag. The bus goes free instead where there is
+    /// no such ticket, where the unit has a task of the tag already, or where the command needs more than 65,536
+    /// bytes.
+    ///
+    /// Condition: the command is whole; where a ticket is given and no task of the unit has the tag, the unit has
+    /// fewer tasks than its depth.
+    pub fn begin_task(&mut self, ticket: Option<u32>)
+        requires whole { whole_by self.old.target.link ≡ true }
+        requires place { IsSome ticket → HasPlace self.old }
+        ensures { self.new ≡ record { target = target_begun self.old.target ticket; rooms = self.old.rooms } }
+    {
+        let link = mem::replace(&mut self.link, Link::Free);
+        self.link = begun(&mut self.units, link, ticket);
+    }
+}
+
+/// The link after the beginning of a task.
+fn begun(units: &mut Vec<Option<QueuedUnit>>, link: Link, ticket: Option<u32>) -> Link
+    requires device { (rogue : Bool) × IsDevice (vec_len units.old) units.old.items link rogue }
+    requires whole { whole_by (link_of link) ≡ true }
+    requires place { IsSome ticket → HasPlace (device_of units.old.items link) }
+    ensures state { device_of units.new.items result ≡ record {
+      target = target_begun (device_of units.old.items link).target ticket;
+      rooms = map room_of units.old.items;
+    } }
+    ensures device { (rogue : Bool) → IsDevice (vec_len units.old) units.old.items link rogue →
+        IsDevice (vec_len units.new) units.new.items result rogue }
+{
+    match link {
+        Link::Commanded(nexus, block) => begin_where(units, nexus, block, ticket),
+        _ => unreachable!(),
+    }
+}
+
+/// The link after the command of a nexus, with the live ticket of its tag, if there is one.
+fn begin_where(
+    units: &mut Vec<Option<QueuedUnit>>,
+    nexus: Nexus,
+    block: Block,
+    ticket: Option<u32>,
+) -> Link
+    requires device { IsDevice (vec_len units.old) units.old.items (held.Commanded nexus block) false }
+    requires whole { is_whole block.bytes.items ≡ true }
+    requires place { IsSome ticket → HasPlace (device_of units.old.items (held.Commanded nexus block)) }
+    ensures state { device_of units.new.items result ≡ record {
+      target = begun_with (device_of units.old.items (held.Commanded nexus block)).target nexus (cdb_of block.bytes.items) ticket;
+      rooms = map room_of units.old.items;
+    } }
+    ensures device { IsDevice (vec_len units.new) units.new.items result false }
+{
+    match ticket {
+        Some(ticket) => begin_at(units, nexus, &block, ticket),
+        None => Link::Free,
+    }
+}
+
+/// The link after the command of a nexus with a live ticket.
+fn begin_at(units: &mut Vec<Option<QueuedUnit>>, nexus: Nexus, block: &Block, ticket: u32) -> Link
+    requires device { IsDevice (vec_len units.old) units.old.items (held.Commanded nexus block.now) false }
+    requires whole { is_whole block.now.bytes.items ≡ true }
+    requires place { At units.old.items nexus.lun (λ q. HasPlaceFor nexus (unit_of q)) }
+    ensures state { device_of units.new.items result ≡ record {
+      target = begun_with (device_of units.old.items (held.Commanded nexus block.now)).target nexus (cdb_of block.now.bytes.items) (Some ticket);
+      rooms = map room_of units.old.items;
+    } }
+    ensures device { IsDevice (vec_len units.new) units.new.items result false }
+{
+    match &mut units[nexus.lun as usize] {
+        Some(unit) => begin(unit, nexus, block, ticket),
+        None => unreachable!(),
+    }
+}
+
+/// The link after the command of a unit's tag.
+fn begin(unit: &mut QueuedUnit, nexus: Nexus, block: &Block, ticket: u32) -> Link
+    requires slot { IsSlot false (held.Commanded nexus block.now) nexus.lun unit.old }
+    requires whole { is_whole block.now.bytes.items ≡ true }
+    requires place { HasPlaceFor nexus (unit_of unit.old) }
+    requires lun { nexus.lun < 8 }
+    ensures unit { unit_of unit.new ≡ unit_of unit.old }
+    ensures room { unit.new.core.log.room ≡ unit.old.core.log.room }
+    ensures link { link_of result ≡ link_begun nexus (cdb_of block.now.bytes.items) (unit_of unit.old) ticket }
+    ensures slot { IsSlot false result nexus.lun unit.new }
+    ensures only { IsOnlyHere nexus.lun unit.new result }
+{
+    let cdb = read_cdb(block.as_slice());
+    if makes_none(&unit.tasks, nexus.tag, &cdb) {
+        return Link::Free;
+    }
+    let task = unit.begin(nexus.tag, ticket, cdb);
+    Link::Working(Connection::begin(nexus.lun, task))
+}
+
+/// Whether no task is made of the command.
+fn makes_none(tasks: &TaskList, tag: u8, cdb: &Cdb) -> bool
+    requires { FitsForm cdb.now }
+    ensures { result ≡ makes_none tasks.now.tasks tag cdb.now }
+{
+    tasks.has_tag(tag) || need(cdb).bytes > MOST_BYTES
+}

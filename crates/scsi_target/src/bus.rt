@@ -1,0 +1,170 @@
+//! Selection, reselection, choices and moves.
+
+ghost use Rattle.std.specs.Prelude.{◌≡◌, ◌<◌, ◌≤◌, false, length};
+ghost use Rattle.target_law.specs.Session.{Task, acted};
+ghost use Rattle.target_law.specs.Sound.{IsSound, IsWaiting};
+ghost use Rattle.target_law.specs.Strays.{strayed};
+ghost use Rattle.target_law.specs.Target.{session, unit_at, linked};
+ghost use Rattle.unit_tasks.specs.Units.{unit_of};
+ghost use Rattle.target_law.specs.Calls.{IsToChoose, is_rogue, asked_by, link_or_free, candidates, selected_by, target_selected, target_reselected, target_acted};
+ghost use Rattle.target_law.specs.Lawful.{CanOf, IsThere, May, Named};
+ghost use Rattle.scsi_target.specs.Devices.{IsFree, IsAbsent, where_room};
+ghost use Rattle.scsi_target.specs.Moves.{has_room, unit_moved, connection_moved};
+ghost use Rattle.scsi_target.specs.Views.{link_of};
+
+use crate::device::Device;
+use crate::link::{Heard, Link};
+use target_law::{Move, NamePart, Nexus, Stray};
+use target_session::Connection;
+use unit_tasks::QueuedUnit;
+
+impl Device {
+    /// The target is selected: it shows MSG_OUT.
+    ///
+    /// Condition: it isn't absent, and isn't connected.
+    pub fn select(&mut self)
+        requires free { IsFree self.old }
+        requires present { IsAbsent self.old → ⊥ }
+        ensures { self.new ≡ record { target = target_selected self.old.target; rooms = self.old.rooms } }
+    {
+        self.link = selected(self.rogue);
+    }
+
+    /// The n-th candidate of a unit reselects, by rising tag from 0: it shows MSG_IN with its name. A unit that breaks
+    /// the rules shows `tag`.
+    ///
+    /// Condition: the target isn't absent and isn't connected, the LUN is there, and `n` is below the number of the
+    /// unit's candidates.
+    pub fn reselect(&mut self, lun: u8, n: u32, tag: u8)
+        requires free { IsFree self.old }
+        requires present { IsAbsent self.old → ⊥ }
+        requires candidate { IsThere (unit_at self.old.target.units lun) (λ u. n < candidates u) }
+        ensures { self.new ≡ record { target = target_reselected self.old.target lun n tag; rooms = self.old.rooms } }
+    {
+        if self.rogue {
+            let shown = Stray::Naming {
+                part: NamePart::Lun,
+                sent: false,
+            };
+            self.link = Link::Straying(shown, Some(Nexus { lun, tag }));
+            return;
+        }
+        if let Some(unit) = &mut self.units[lun as usize] {
+            let task = unit.tasks.take_out(n as usize);
+            self.link = Link::Working(Connection::reselect(lun, task));
+        }
+    }
+
+    /// The lawful move that the word names; of units that break the rules the move by the word.
+    ///
+    /// Condition: the target is connected and is to choose.
+    pub fn choose(&self, word: u32) -> Move
+        requires { IsToChoose self.now.target.link }
+        ensures named { Named self.now.target word result }
+        ensures lawful { May self.now.target result }
+    {
+        match &self.link {
+            Link::Working(connection) => match &self.units[connection.lun() as usize] {
+                Some(unit) => connection.choose(&unit.core, unit.rig.refusals, word),
+                None => unreachable!(),
+            },
+            _ => Move::Rogue { word },
+        }
+    }
+
+    /// A word by which `choose` gives this move.
+    ///
+    /// Condition: the move is lawful.
+    pub fn word_for(&self, m: &Move) -> u32
+        requires { May self.now.target m.now }
+        ensures { Named self.now.target result m.now }
+    {
+        match &self.link {
+            Link::Working(connection) => match &self.units[connection.lun() as usize] {
+                Some(unit) => connection.word_for(&unit.core, unit.rig.refusals, m),
+                None => unreachable!(),
+            },
+            _ => match *m {
+                Move::Rogue { word } => word,
+                _ => unreachable!(),
+            },
+        }
+    }
+
+    /// Makes a move. Where it logs and the log has no room, nothing changes.
+    ///
+    /// Condition: the move is lawful.
+    pub fn act(&mut self, m: Move)
+        requires { May self.old.target m }
+        ensures { self.new ≡ where_room self.old (target_acted self.old.target m) }
+    {
+        match &mut self.link {
+            Link::Working(connection) => {
+                if let Some(unit) = &mut self.units[connection.lun() as usize] {
+                    move_on(unit, connection, m);
+                }
+            }
+            Link::Straying(_, named) => {
+                let named = *named;
+                if let Move::Rogue { word } = m {
+                    self.link = stray_on(named, word);
+                }
+            }
+            _ => {}
+        }
+    }
+
+    /// ATN is asserted, and the target shows MSG_OUT.
+    ///
+    /// Condition: the target is connected, is to choose and doesn't break the rules.
+    pub fn ask_message(&mut self)
+        requires choosing { IsToChoose self.old.target.link }
+        requires lawful { is_rogue self.old.target ≡ false }
+        ensures { self.new ≡ record { target = linked self.old.target (asked_by self.old.target.link); rooms = self.old.rooms } }
+    {
+        if let Link::Working(connection) = &mut self.link {
+            connection.ask_message();
+        }
+    }
+}
+
+/// The link of a target that is selected.
+fn selected(rogue: bool) -> Link
+    ensures { link_of result ≡ selected_by rogue }
+{
+    if rogue {
+        Link::Straying(Stray::Hearing, None)
+    } else {
+        Link::Greeted(Heard::new())
+    }
+}
+
+/// Makes the move of a connected task at its unit. Where it logs and the log has no room, nothing changes.
+///
+/// Condition: the move is lawful.
+fn move_on(unit: &mut QueuedUnit, connection: &mut Connection, m: Move)
+    requires sound { IsSound (session (unit_of unit.old) connection.old) }
+    requires lawful { CanOf (unit_of unit.old) connection.old m }
+    requires log { length unit.old.core.log.entries ≤ unit.old.core.log.room }
+    ensures unit { let s = acted m (session (unit_of unit.old) connection.old) in
+        unit.new ≡ unit_moved (has_room unit.old s) unit.old s }
+    ensures connection { let s = acted m (session (unit_of unit.old) connection.old) in
+        connection.new ≡ connection_moved (has_room unit.old s) connection.old s }
+    ensures sound { IsSound (session (unit_of unit.new) connection.new) }
+    ensures others { (k : Task) → IsWaiting unit.old.core.lun k → IsWaiting unit.new.core.lun k }
+{
+    if connection.logs(&unit.core, &m) && unit.core.log.spare() == 0 {
+        return;
+    }
+    connection.act(&mut unit.core, m);
+}
+
+/// The link of a target that breaks the rules after its move by a word.
+fn stray_on(named: Option<Nexus>, word: u32) -> Link
+    ensures { link_of result ≡ link_or_free (strayed word) named }
+{
+    match rogue_target::strayed(word) {
+        Some(shown) => Link::Straying(shown, named),
+        None => Link::Free,
+    }
+}

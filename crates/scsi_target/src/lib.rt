@@ -1,0 +1,17 @@
+//! One SCSI-2 target with its logical units, their tasks and their logs: what it does on the bus.
+//!
+//! ATN, ACK and the live ticket of a tag are the caller's to know. Where the log of a unit has no room for the
+//! entries of a call, the call changes nothing; `reserve` makes room. Nothing but `open` and `reserve` takes memory.
+#![tactic(auto)]
+
+mod beginning;
+mod bus;
+mod bytes;
+mod device;
+mod link;
+mod messages;
+mod parting;
+mod resetting;
+mod told;
+
+pub use device::Device;
