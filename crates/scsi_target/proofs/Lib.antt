@@ -11,3 +11,4 @@ pub mod Acks
 pub mod Begins
 pub mod Resets
 pub mod Tells
+pub mod Choices

@@ -6,3 +6,4 @@ pub mod Partings
 pub mod Beginnings
 pub mod Resettings
 pub mod Messages
+pub mod Laws

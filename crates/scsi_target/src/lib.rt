@@ -8,6 +8,7 @@ mod beginning;
 mod bus;
 mod bytes;
 mod device;
+mod laws;
 mod link;
 mod messages;
 mod parting;
@@ -15,3 +16,4 @@ mod resetting;
 mod told;
 
 pub use device::Device;
+pub use laws::one_move_a_word;
