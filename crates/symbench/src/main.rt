@@ -4,7 +4,7 @@
 use scsi_words::Text;
 use std::process::ExitCode;
 use std::{env, io};
-use sym_io::{RealShelf, RealSink};
+use sym_io::{RealShelf, RealSink, write_all};
 use sym_top::{Exit, answer_alone};
 
 /// The words after the program's own name.
@@ -24,6 +24,7 @@ fn main(rt: HostRuntime) -> ExitCode {
     let words = match words(&rt) {
         Ok(words) => words,
         Err(error) if error.kind() == io::ErrorKind::OutOfMemory => {
+            let _ = write_all(&mut err, b"out of memory\n");
             return ExitCode::from(Exit::OutOfMemory.number());
         }
         Err(_) => Vec::new(alloc),
