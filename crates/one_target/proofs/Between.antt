@@ -1,5 +1,5 @@
 -- Each move of the bus of `one` keeps what holds of it between its calls.
-use Rattle.std.proofs.Common.{◌≡◌, ℕ, ◌==◌, ◌&&◌, Bool, true, false, List, refl, ap, sym, ◌∙◌, subst, ◌⊎◌, inl, inr, Option, Some, None}
+use Rattle.std.proofs.Common.{◌≡◌, ℕ, ◌==◌, ◌&&◌, ◌||◌, if◌then◌else◌, nat_lt, Bool, true, false, List, [], ◌∷◌, refl, ap, sym, ◌∙◌, subst, ◌⊎◌, inl, inr, Option, Some, None}
 use Rattle.scsi_words.specs.declared.phases.kinds.Phase.{Phase as BusPhase}
 use Rattle.scsi_words.specs.declared.phases.kinds.Phase.TheVariants as phase
 use Rattle.chip_step.specs.Event.{Event, Phase, Shown, ByteIn, ByteOut, Select, Reselect, SetAtn, ClearAck, Leave}
@@ -7,19 +7,24 @@ use Rattle.chip_step.specs.declared.scsi_bus.Settled.{Settled}
 use Rattle.target_law.specs.declared.nexus.Nexus.{Nexus}
 use Rattle.target_law.specs.declared.showing.Showing.{Showing}
 use Rattle.target_law.specs.declared.showing.Showing.TheVariants.{Choosing, Hearing, Sending, Receiving, Telling, Saying}
-use Rattle.target_law.specs.Session.{Task}
+use Rattle.target_law.specs.Session.{Task, began}
 use Rattle.target_law.specs.Bytes.{Connection, phase_of, byte_by, takes_by, sent_by}
-use Rattle.target_law.specs.Target.{LogicalUnit, Link, Free, Greeted, Commanded, Working, Straying, Target, unit_at, on_unit, linked, leaves}
-use Rattle.target_law.specs.Calls.{is_free, link_phase, nexus_of, whole_by, target_selected, target_acted, asked_by, link_byte, link_sent, sent_if, link_takes, took_if, target_messaged, target_acked}
-use Rattle.one_target.specs.Bus.{BusState, all_fit, if_fits, with_room, become, becomes, live_ticket, begun_of, begun_where, begins, is_to_choose, leaves_where, settles, Acts, Chooses, ChoosesWhere, GoesOn, TurnsWhere, Turns, ack_by, ComesIn, StaysOut, SelectsWhere, is_message, messaged_where, after_atn, acked_where, moves}
-use Rattle.one_target.specs.Holding.{is_alone, is_of_one, is_said, awaits_ack, IsHeld}
-use Rattle.one_target.proofs.Keeping.{IsKept, alone-of, kept-acted, kept-messaged, kept-acked, kept-begun, kept-linked, kept-sent, kept-took, kept-left, kept-selected}
+use Rattle.target_law.specs.Target.{LogicalUnit, Link, Free, Greeted, Commanded, Working, Straying, Target, unit_at, with_unit, on_unit, linked, unit_left}
+use Rattle.target_law.specs.Calls.{is_free, link_phase, nexus_of, whole_by, target_selected, target_acted, asked_by, link_byte, link_sent, sent_if, link_takes, took_if, target_messaged, target_acked, target_begun, begun, begun_with, begun_by, has_tag, has_ended}
+use Rattle.one_target.specs.Bus.{BusState, if_fits, with_room, become, live_ticket, begun_of, begun_where, begins, is_to_choose, SettlesWhere, LeavesBus, Acts, Chooses, ChoosesWhere, GoesOn, TurnsWhere, Turns, ack_by, ComesIn, StaysOut, SelectsWhere, is_message, messaged_where, after_atn, acked_where, moves}
+use Rattle.scsi_target.specs.Devices.{lie_within}
+use Rattle.cdb_codec.specs.declared.commands.Cdb.{Cdb}
+use Rattle.cdb_codec.specs.Blocks.{cdb_of}
+use Rattle.cdb_codec.specs.Forms.{need_of}
+use Rattle.one_target.proofs.Slots.{slots, unit_at-slots, with_unit-slots}
+use Rattle.one_target.specs.Holding.{is_usual, is_alone, is_of_one, is_said, awaits_ack, IsHeld}
+use Rattle.one_target.proofs.Keeping.{IsKept, alone-of, kept-acted, kept-messaged, kept-acked, kept-begun, kept-linked, kept-sent, kept-took, kept-selected, zero-of}
 
 pub kept-of : (b : BusState) → IsHeld b → IsKept b.target
 kept-of b h = record { alone = alone-of b.target.units h.alone; of_one = h.of_one }
 
-held : (b : BusState) → IsKept b.target → (b.ack ≡ true → awaits_ack b.target.link ≡ true) → IsHeld b
-held b k a = record { alone = ap is_alone k.alone.units_are ∙ k.alone.usual; of_one = k.of_one; acknowledges = a }
+pub held : (b : BusState) → IsKept b.target → lie_within b.target.units b.rooms ≡ true → (b.ack ≡ true → awaits_ack b.target.link ≡ true) → IsHeld b
+held b k f a = record { fits = f; alone = ap is_alone k.alone.units_are ∙ k.alone.usual; of_one = k.of_one; acknowledges = a }
 
 -- what is known while a message byte waits for ACK
 said-phase : (s : Showing) → is_said s ≡ true → phase_of s ≡ Some phase.MsgIn
@@ -93,37 +98,106 @@ kept-if_fits true old new k l = l
 kept-if_fits false old new k l = k
 
 pub kept-with_room : (rooms : List ℕ) (old new : Target) → IsKept old → IsKept new → IsKept (with_room rooms old new)
-kept-with_room rooms old new k l = kept-if_fits (all_fit new.units rooms) old new k l
+kept-with_room rooms old new k l = kept-if_fits (lie_within new.units rooms) old new k l
 
-kept-leaves : (t : Target) (c : Connection) (u : LogicalUnit) → unit_at t.units c.lun ≡ Some u → IsKept t → IsKept (leaves t c u)
-kept-leaves t c u e k = subst (λ (o : Option LogicalUnit). IsKept (on_unit o (leaves t c) t)) e (kept-left t c k)
+-- the logs lie within their rooms
+if_fits-fits : (rooms : List ℕ) (fits : Bool) (old new : Target) → lie_within new.units rooms ≡ fits → lie_within old.units rooms ≡ true → lie_within (if_fits fits old new).units rooms ≡ true
+if_fits-fits rooms true old new e f = e
+if_fits-fits rooms false old new e f = f
 
-kept-leaves_where : (still : Bool) (left after : Target) → IsKept left → IsKept after → IsKept (leaves_where still left after)
-kept-leaves_where true left after k l = k
-kept-leaves_where false left after k l = l
+pub with_room-fits : (rooms : List ℕ) (old new : Target) → lie_within old.units rooms ≡ true → lie_within (with_room rooms old new).units rooms ≡ true
+with_room-fits rooms old new f = if_fits-fits rooms (lie_within new.units rooms) old new refl f
 
-kept-acts : (rooms : List ℕ) (word : ℕ) (t t' : Target) (c : Connection) → IsKept t → Acts rooms word t c t' → IsKept t'
-kept-acts rooms word t t' c k a =
+same_log-fits : (u v : LogicalUnit) (rooms : List ℕ) → v.log ≡ u.log → lie_within (slots u) rooms ≡ true → lie_within (slots v) rooms ≡ true
+unfolding lie_within
+same_log-fits u v [] e f = refl
+same_log-fits u v (n ∷ ns) e f = rw e f
+
+-- a task leaves the bus
+pub record Left (t t' : Target) (rooms : List ℕ) : Type 0 where
+  pub kept : IsKept t'
+  pub fits : lie_within t.units rooms ≡ true → lie_within t'.units rooms ≡ true
+
+pub left-is : (t t' : Target) (rooms : List ℕ) → IsKept t → LeavesBus t t' → Left t t' rooms
+left-is t t' rooms k m =
+    let w : LogicalUnit = k.alone.unit in
+    let c : Connection = m.connection in
+    let left : LogicalUnit = unit_left m.unit c.task in
+    let one : c.lun == 0 ≡ true = ap is_of_one (sym m.working) ∙ k.of_one in
+    let z : c.lun ≡ 0 = zero-of c.lun one in
+    let there : unit_at t.units c.lun ≡ Some w = ap (λ (us : List (Option LogicalUnit)). unit_at us c.lun) k.alone.units_are ∙ ap (λ (n : ℕ). unit_at (slots w) n) z ∙ unit_at-slots w in
+    let same : Some m.unit ≡ Some w = sym m.unit_is ∙ there in
+    let unit_is : m.unit ≡ w = cc in
+    let units : with_unit t.units c.lun left ≡ slots left = ap (λ (us : List (Option LogicalUnit)). with_unit us c.lun left) k.alone.units_are ∙ ap (λ (n : ℕ). with_unit (slots w) n left) z ∙ with_unit-slots w left in
+    let units' : t'.units ≡ slots left = ap (λ (x : Target). x.units) m.left ∙ units in
+    record {
+      kept = record { alone = record { unit = left; units_are = units'; usual = ap (λ (x : LogicalUnit). is_usual x.rig) unit_is ∙ k.alone.usual }; of_one = ap (λ (x : Target). is_of_one x.link) m.left };
+      fits = λ f.
+          let f0 : lie_within (slots w) rooms ≡ true = ap (λ (us : List (Option LogicalUnit)). lie_within us rooms) (sym k.alone.units_are) ∙ f in
+          ap (λ (us : List (Option LogicalUnit)). lie_within us rooms) units' ∙ same_log-fits w left rooms (ap (λ (x : LogicalUnit). x.log) unit_is) f0;
+    }
+
+settles-left : (still : Bool) (t t' : Target) (rooms : List ℕ) → IsKept t → SettlesWhere still t t' → Left t t' rooms
+settles-left true t t' rooms k m = left-is t t' rooms k m
+settles-left false t t' rooms k m = record { kept = subst IsKept (sym m) k; fits = λ f. ap (λ (x : Target). lie_within x.units rooms) m ∙ f }
+
+acts-left : (rooms : List ℕ) (word : ℕ) (t t' : Target) (c : Connection) → IsKept t → Acts rooms word t c t' → Left t t' rooms
+acts-left rooms word t t' c k a =
     let after : Target = with_room rooms t (target_acted t a.move) in
-    let e : IsKept (settles (leaves t c a.unit) after) =
-    kept-leaves_where (is_to_choose after.link) (leaves t c a.unit) after (kept-leaves t c a.unit a.unit_is k) (kept-with_room rooms t (target_acted t a.move) k (kept-acted t a.move k)) in
-    subst IsKept (sym a.after) e
+    let l : Left after t' rooms = settles-left (is_to_choose after.link) after t' rooms (kept-with_room rooms t (target_acted t a.move) k (kept-acted t a.move k)) a.after in
+    record { kept = l.kept; fits = λ f. l.fits (with_room-fits rooms t (target_acted t a.move) f) }
 
-kept-chooses : (l : Link) (atn : Bool) (rooms : List ℕ) (word : ℕ) (t t' : Target) → is_of_one l ≡ true → IsKept t → Chooses l atn rooms word t t' → IsKept t'
-kept-chooses (Working c) true rooms word t t' e k m = subst IsKept (sym m) (kept-linked t (asked_by (Working c)) e k)
-kept-chooses (Working c) false rooms word t t' e k m = kept-acts rooms word t t' c k m
-kept-chooses Free atn rooms word t t' e k m = absurd m
-kept-chooses (Greeted heard) atn rooms word t t' e k m = absurd m
-kept-chooses (Commanded n taken) atn rooms word t t' e k m = absurd m
-kept-chooses (Straying s n) atn rooms word t t' e k m = absurd m
+chooses-left : (l : Link) (atn : Bool) (rooms : List ℕ) (word : ℕ) (t t' : Target) → is_of_one l ≡ true → IsKept t → Chooses l atn rooms word t t' → Left t t' rooms
+chooses-left (Working c) true rooms word t t' e k m = record { kept = subst IsKept (sym m) (kept-linked t (asked_by (Working c)) e k); fits = λ f. ap (λ (x : Target). lie_within x.units rooms) m ∙ f }
+chooses-left (Working c) false rooms word t t' e k m = acts-left rooms word t t' c k m
+chooses-left Free atn rooms word t t' e k m = absurd m
+chooses-left (Greeted heard) atn rooms word t t' e k m = absurd m
+chooses-left (Commanded n taken) atn rooms word t t' e k m = absurd m
+chooses-left (Straying s n) atn rooms word t t' e k m = absurd m
 
-kept-chooses_where : (to_choose atn : Bool) (rooms : List ℕ) (word : ℕ) (t t' : Target) → IsKept t → ChoosesWhere to_choose atn rooms word t t' → IsKept t'
-kept-chooses_where true atn rooms word t t' k m = kept-chooses t.link atn rooms word t t' k.of_one k m
-kept-chooses_where false atn rooms word t t' k m = subst IsKept (sym m) k
+chooses_where-left : (to_choose atn : Bool) (rooms : List ℕ) (word : ℕ) (t t' : Target) → IsKept t → ChoosesWhere to_choose atn rooms word t t' → Left t t' rooms
+chooses_where-left true atn rooms word t t' k m = chooses-left t.link atn rooms word t t' k.of_one k m
+chooses_where-left false atn rooms word t t' k m = record { kept = subst IsKept (sym m) k; fits = λ f. ap (λ (x : Target). lie_within x.units rooms) m ∙ f }
 
-become-held : (free : Bool) (b : BusState) (t : Target) → IsKept t → (b.ack ≡ true → awaits_ack t.link ≡ true) → IsHeld (become free b t)
-become-held true b t k a = held (become true b t) k (λ e. absurd cc)
-become-held false b t k a = held (become false b t) k a
+-- a task that begins changes no unit
+begun_if-units : (refused : Bool) (t : Target) (l : Link) → (if refused then linked t Free else linked t l).units ≡ t.units
+begun_if-units true t l = refl
+begun_if-units false t l = refl
+
+begun_at-units : (o : Option LogicalUnit) (t : Target) (n : Nexus) (c : Cdb) (ticket : ℕ) → (on_unit o (λ u. begun t n c u ticket) t).units ≡ t.units
+begun_at-units None t n c ticket = refl
+begun_at-units (Some u) t n c ticket = begun_if-units (has_tag u.tasks n.tag || nat_lt 65536 (need_of c).bytes) t
+    (Working (record { lun = n.lun; reselected = false; heard = []; task = began n.tag ticket c u.rig.disconnects (has_ended u.log ticket); shows = Choosing }))
+
+begun_with-units : (o : Option ℕ) (t : Target) (n : Nexus) (c : Cdb) → (begun_with t n c o).units ≡ t.units
+begun_with-units None t n c = refl
+begun_with-units (Some ticket) t n c = begun_at-units (unit_at t.units n.lun) t n c ticket
+
+begun_by-units : (l : Link) (t : Target) (o : Option ℕ) → (begun_by l t o).units ≡ t.units
+begun_by-units Free t o = refl
+begun_by-units (Greeted heard) t o = refl
+begun_by-units (Commanded n taken) t o = begun_with-units o t n (cdb_of taken)
+begun_by-units (Working c) t o = refl
+begun_by-units (Straying s n) t o = refl
+
+begun-units : (t : Target) (o : Option ℕ) → (target_begun t o).units ≡ t.units
+unfolding target_begun
+begun-units t o = begun_by-units t.link t o
+
+begun_of-units : (o : Option Nexus) (t : Target) → (begun_of o t).units ≡ t.units
+begun_of-units None t = refl
+begun_of-units (Some n) t = begun-units t (live_ticket t n)
+
+begun_where-units : (whole : Bool) (t : Target) → (begun_where whole t).units ≡ t.units
+begun_where-units true t = begun_of-units (nexus_of t.link) t
+begun_where-units false t = refl
+
+pub begins-units : (t : Target) → (begins t).units ≡ t.units
+begins-units t = begun_where-units (whole_by t.link) t
+
+become-held : (free : Bool) (b : BusState) (t : Target) → IsKept t → lie_within t.units b.rooms ≡ true → (b.ack ≡ true → awaits_ack t.link ≡ true) → IsHeld (become free b t)
+become-held true b t k f a = held (become true b t) k f (λ e. absurd cc)
+become-held false b t k f a = held (become false b t) k f a
 
 -- a target whose message byte waits makes no turn
 waiting-begins : (t : Target) → Waits t.link → begins t ≡ t
@@ -139,10 +213,11 @@ waiting-turns b word t' w m =
 
 goes-held : (b b' : BusState) (word : ℕ) → IsHeld b → GoesOn word b b' → IsHeld b'
 goes-held b b' word h g =
-    let k : IsKept g.target = kept-chooses_where (is_to_choose (begins b.target).link) b.atn b.rooms word (begins b.target) g.target (kept-begins b.target (kept-of b h)) g.chooses in
+    let l : Left (begins b.target) g.target b.rooms = chooses_where-left (is_to_choose (begins b.target).link) b.atn b.rooms word (begins b.target) g.target (kept-begins b.target (kept-of b h)) g.chooses in
+    let f : lie_within g.target.units b.rooms ≡ true = l.fits (ap (λ (us : List (Option LogicalUnit)). lie_within us b.rooms) (begins-units b.target) ∙ h.fits) in
     let a : b.ack ≡ true → awaits_ack g.target.link ≡ true = λ e.
     ap (λ (t : Target). awaits_ack t.link) (waiting-turns b word g.target (waits b.target.link (h.acknowledges e)) g.chooses) ∙ h.acknowledges e in
-    subst IsHeld (sym g.becomes_it) (become-held (is_free g.target.link) b g.target k a)
+    subst IsHeld (sym g.becomes_it) (become-held (is_free g.target.link) b g.target l.kept f a)
 
 turns_where-held : (free : Bool) (b b' : BusState) (word : ℕ) → IsHeld b → TurnsWhere free word b b' → IsHeld b'
 turns_where-held true b b' word h m = subst IsHeld (sym m) h
@@ -171,13 +246,13 @@ comes-awaits o l a same one w e = elim (ack-cases o (link_phase l) a e) [
 byte_in-held : (b b' : BusState) (byte : Option ℕ) → IsHeld b → ComesIn b byte b' ⊎ StaysOut b byte b' → IsHeld b'
 byte_in-held b b' byte h m = elim m [
   | inl x ↦ subst IsHeld (sym x.after) (held (record b { target = linked b.target (sent_if (link_byte b.target.link) b.target.link); ack = ack_by (link_byte b.target.link) (link_phase b.target.link) b.ack })
-      (kept-sent b.target (link_byte b.target.link) (kept-of b h)) (comes-awaits (link_byte b.target.link) b.target.link b.ack refl h.of_one h.acknowledges))
+      (kept-sent b.target (link_byte b.target.link) (kept-of b h)) h.fits (comes-awaits (link_byte b.target.link) b.target.link b.ack refl h.of_one h.acknowledges))
   | inr x ↦ subst IsHeld (sym x.same) h
 ]
 
 byte_out-held : (b : BusState) (byte : ℕ) → IsHeld b → IsHeld (record b { target = linked b.target (took_if (link_takes b.target.link) b.target.link byte) })
 byte_out-held b byte h =
-    held (record b { target = linked b.target (took_if (link_takes b.target.link) b.target.link byte) }) (kept-took b.target (link_takes b.target.link) byte (kept-of b h))
+    held (record b { target = linked b.target (took_if (link_takes b.target.link) b.target.link byte) }) (kept-took b.target (link_takes b.target.link) byte (kept-of b h)) h.fits
     (λ e. ap (λ (x : Bool). awaits_ack (took_if x b.target.link byte)) (waits b.target.link (h.acknowledges e)).takes ∙ h.acknowledges e)
 
 -- selection
@@ -185,42 +260,41 @@ free_and : (a f : Bool) → a && f ≡ true → f ≡ true
 free_and true f e = e
 free_and false f e = absurd cc
 
-selects-held : (there : Bool) (b b' : BusState) (settled : Settled) → (there ≡ true → is_free b.target.link ≡ true) → IsHeld b → SelectsWhere there b settled b' → IsHeld b'
+pub selects-held : (there : Bool) (b b' : BusState) (settled : Settled) → (there ≡ true → is_free b.target.link ≡ true) → IsHeld b → SelectsWhere there b settled b' → IsHeld b'
 selects-held true b b' settled f h m =
-    subst IsHeld (sym m.1) (held (record b { target = target_selected b.target }) (kept-selected b.target (kept-of b h))
+    subst IsHeld (sym m.1) (held (record b { target = target_selected b.target }) (kept-selected b.target (kept-of b h)) h.fits
     (λ e. let g : is_free b.target.link ≡ false = (waits b.target.link (h.acknowledges e)).bound in let i : is_free b.target.link ≡ true = f refl in absurd cc))
 selects-held false b b' settled f h m = subst IsHeld (sym m.1) h
 
 -- signals
-messaged-held : (shown : Bool) (b : BusState) → is_message (link_phase b.target.link) ≡ shown → IsHeld b → IsHeld (messaged_where shown b)
+pub messaged-held : (shown : Bool) (b : BusState) → is_message (link_phase b.target.link) ≡ shown → IsHeld b → IsHeld (messaged_where shown b)
 messaged-held false b e h = h
 messaged-held true b e h =
     let t : Target = with_room b.rooms b.target (target_messaged b.target) in
-    become-held (is_free t.link) b t (kept-with_room b.rooms b.target (target_messaged b.target) (kept-of b h) (kept-messaged b.target (kept-of b h)))
+    become-held (is_free t.link) b t (kept-with_room b.rooms b.target (target_messaged b.target) (kept-of b h) (kept-messaged b.target (kept-of b h))) (with_room-fits b.rooms b.target (target_messaged b.target) h.fits)
     (λ a. let p : is_message (link_phase b.target.link) ≡ false = ap is_message (waits b.target.link (h.acknowledges a)).phase in absurd cc)
 
 atn-held : (on : Bool) (b : BusState) → IsHeld b → IsHeld (after_atn on b)
-atn-held true b h = held (record b { atn = true }) (kept-of b h) h.acknowledges
+atn-held true b h = held (record b { atn = true }) (kept-of b h) h.fits h.acknowledges
 atn-held false b h =
     let m : BusState = messaged_where (is_message (link_phase b.target.link)) b in
     let k : IsHeld m = messaged-held (is_message (link_phase b.target.link)) b refl h in
-    held (record m { atn = false }) (kept-of m k) k.acknowledges
+    held (record m { atn = false }) (kept-of m k) k.fits k.acknowledges
 
-become-target : (free : Bool) (b : BusState) (t : Target) → (become free b t).target ≡ t
-become-target true b t = refl
-become-target false b t = refl
+become-quiet : (free : Bool) (b : BusState) (t : Target) → IsKept t → lie_within t.units b.rooms ≡ true → IsHeld (record (become free b t) { ack = false })
+become-quiet true b t k f = held (record (become true b t) { ack = false }) k f (λ e. absurd cc)
+become-quiet false b t k f = held (record (become false b t) { ack = false }) k f (λ e. absurd cc)
 
-acked-held : (ack : Bool) (b : BusState) → IsHeld b → IsHeld (acked_where ack b)
+pub acked-held : (ack : Bool) (b : BusState) → IsHeld b → IsHeld (acked_where ack b)
 acked-held true b h =
     let t : Target = with_room b.rooms b.target (target_acked b.target) in
-    let k : IsKept t = kept-with_room b.rooms b.target (target_acked b.target) (kept-of b h) (kept-acked b.target (kept-of b h)) in
-    held (record (becomes b t) { ack = false }) (subst IsKept (sym (become-target (is_free t.link) b t)) k) (λ e. absurd cc)
+    become-quiet (is_free t.link) b t (kept-with_room b.rooms b.target (target_acked b.target) (kept-of b h) (kept-acked b.target (kept-of b h))) (with_room-fits b.rooms b.target (target_acked b.target) h.fits)
 acked-held false b h = h
 
 pub moves-held : (b : BusState) (event : Event) (b' : BusState) → moves b event b' → IsHeld b → IsHeld b'
 moves-held b (Phase word shown) b' m h =
     let k : IsHeld m.0 = turns-held b m.0 word h m.1 in
-    subst IsHeld (sym m.3) (held (record m.0 { asked = shown }) (kept-of m.0 k) k.acknowledges)
+    subst IsHeld (sym m.3) (held (record m.0 { asked = shown }) (kept-of m.0 k) k.fits k.acknowledges)
 moves-held b (Shown shown) b' m h = subst IsHeld (sym m.1) h
 moves-held b (ByteIn byte) b' m h = byte_in-held b b' byte h m
 moves-held b (ByteOut byte taken) b' m h = subst IsHeld (sym m.1) (byte_out-held b byte h)

@@ -13,7 +13,8 @@ use Rattle.target_law.specs.Target.{LogicalUnit, Free, Greeted, Commanded, Targe
 use Rattle.target_law.specs.Calls.{is_whole, is_rogue, target_selected, target_messaged, target_acked}
 use Rattle.straight_run.specs.Reading.{Answers, asks, outs, beginning}
 use Rattle.straight_run.specs.Opening.{cdb}
-use Rattle.one_target.specs.Bus.{BusState, moves, all_fit, if_fits, with_room, becomes, after_atn, after_ack}
+use Rattle.one_target.specs.Bus.{BusState, moves, if_fits, with_room, becomes, after_atn, after_ack}
+use Rattle.scsi_target.specs.Devices.{lie_within}
 use Rattle.one_target.proofs.Slots.{slots, unit_at-slots, with_unit-slots, slots-fit}
 use Rattle.one_target.proofs.Asking.{selects, sets_atn, clears_ack, takes, gives, leaves, asks_shown}
 use Rattle.one_target.proofs.Choosing.{connected, working}
@@ -35,7 +36,7 @@ unfolding is_rogue
 selected-slots u e = rw e refl
 
 -- an acknowledged message byte of a task
-after_ack-working : (rooms : List ℕ) (u : LogicalUnit) (k : Task) (v : Verdict) (s : Session) (asked : Option BusPhase) → closed v (session u (connected k (Saying (Complete v) true))) ≡ s → all_fit (slots (unit_after u s)) rooms ≡ true →
+after_ack-working : (rooms : List ℕ) (u : LogicalUnit) (k : Task) (v : Verdict) (s : Session) (asked : Option BusPhase) → closed v (session u (connected k (Saying (Complete v) true))) ≡ s → lie_within (slots (unit_after u s)) rooms ≡ true →
     after_ack (record { target = working u k (Saying (Complete v) true); rooms = rooms; atn = false; ack = true; asked = asked }) ≡ bus rooms (record { units = slots (unit_after u s); link = Free }) asked
 after_ack-working rooms u k v s asked e f =
     let b : BusState = record { target = working u k (Saying (Complete v) true); rooms = rooms; atn = false; ack = true; asked = asked } in
@@ -44,7 +45,7 @@ after_ack-working rooms u k v s asked e f =
     let h : with_room rooms b.target after ≡ after = ap (λ (x : Bool). if_fits x b.target after) f in
     ap (λ (x : Target). record (becomes b x) { ack = false }) (g ∙ h)
 
-after_atn-slots : (rooms : List ℕ) (u : LogicalUnit) (asked : Option BusPhase) → all_fit (slots u) rooms ≡ true →
+after_atn-slots : (rooms : List ℕ) (u : LogicalUnit) (asked : Option BusPhase) → lie_within (slots u) rooms ≡ true →
     after_atn false (record { target = record { units = slots u; link = Greeted (0xc0 ∷ 0x20 ∷ 0 ∷ []) }; rooms = rooms; atn = true; ack = false; asked = asked })
     ≡ bus rooms (record { units = slots u; link = Commanded (record { lun = 0; tag = 0 }) [] }) asked
 after_atn-slots rooms u asked f =
@@ -66,7 +67,7 @@ module _ (P : BusState → Type 0) (rooms : List ℕ) (roomy : 8 ≤ get_or room
       P (bus rooms (record { units = slots (unit_after u s); link = Free }) (Some MsgIn)) →
       Answers moves (telling (status_code (status_told v))) P (bus rooms (working u k (Telling v)) (Some StatusPhase))
   tells u k v s e l p =
-      let f : all_fit (slots (unit_after u s)) rooms ≡ true = slots-fit (unit_after u s) rooms roomy l in
+      let f : lie_within (slots (unit_after u s)) rooms ≡ true = slots-fit (unit_after u s) rooms roomy l in
       let free : BusState = bus rooms (record { units = slots (unit_after u s); link = Free }) (Some MsgIn) in
       let acked : BusState = record { target = working u k (Saying (Complete v) true); rooms = rooms; atn = false; ack = true; asked = Some MsgIn } in
       let left : Answers moves (Leave 0 true ∷ []) P free = leaves P free [] refl p in

@@ -1,5 +1,5 @@
 -- The turn of a target with one unit, that is to choose.
-use Rattle.std.proofs.Common.{◌≡◌, ℕ, Bool, true, false, List, [], length, refl, ap, sym, ◌∙◌, Some, slice_get}
+use Rattle.std.proofs.Common.{◌≡◌, ℕ, Bool, true, false, List, [], length, refl, ap, sym, ◌∙◌, subst, Some, slice_get}
 use Rattle.target_law.specs.declared.moves.Move.{Move}
 use Rattle.target_law.specs.declared.moves.Move.TheVariants.{Go}
 use Rattle.target_law.specs.declared.showing.Showing.{Showing}
@@ -7,10 +7,11 @@ use Rattle.target_law.specs.declared.showing.Showing.TheVariants.{Choosing}
 use Rattle.target_law.specs.Session.{Task, Session, acted}
 use Rattle.target_law.specs.Choice.{offers, index, can_go, can_refuse, can_spend, go_bytes, Names}
 use Rattle.target_law.specs.Bytes.{Connection}
-use Rattle.target_law.specs.Target.{LogicalUnit, Working, Target, session, unit_after, leaves}
+use Rattle.target_law.specs.Target.{LogicalUnit, Working, Target, session, unit_after}
 use Rattle.target_law.specs.Calls.{is_free, target_acted}
 use Rattle.target_law.specs.Lawful.{NamesOf}
-use Rattle.one_target.specs.Bus.{BusState, all_fit, if_fits, with_room, becomes, begins, is_to_choose, leaves_where, settles, Acts, Chooses, ChoosesWhere, GoesOn, Turns}
+use Rattle.one_target.specs.Bus.{BusState, if_fits, with_room, becomes, begins, is_to_choose, Settles, Acts, Chooses, ChoosesWhere, GoesOn, Turns}
+use Rattle.scsi_target.specs.Devices.{lie_within}
 use Rattle.one_target.proofs.Slots.{slots, unit_at-slots, with_unit-slots}
 
 -- a task of LUN 0 that a selection connected
@@ -40,7 +41,7 @@ acted-working u k m s e = rw (unit_at-slots u, e, with_unit-slots u (unit_after 
 pub record Goes (u : LogicalUnit) (k : Task) (n : ℕ) (s : Session) (rooms : List ℕ) : Type 0 where
   pub only : (m : Move) → NamesOf u (connected k Choosing) 0 m → m ≡ Go n
   pub acted_is : acted (Go n) (session u (connected k Choosing)) ≡ s
-  pub fits : all_fit (slots (unit_after u s)) rooms ≡ true
+  pub fits : lie_within (slots (unit_after u s)) rooms ≡ true
   pub shown : is_to_choose (Working (connected s.task s.shows)) ≡ false
 
 acts-is : (u : LogicalUnit) (k : Task) (n : ℕ) (s : Session) (rooms : List ℕ) (t' : Target) → Goes u k n s rooms → Acts rooms 0 (working u k Choosing) (connected k Choosing) t' → t' ≡ working (unit_after u s) s.task s.shows
@@ -52,11 +53,9 @@ acts-is u k n s rooms t' g a =
     let named : NamesOf u (connected k Choosing) 0 a.move = rw unit_is at a.named in
     let move_is : a.move ≡ Go n = g.only a.move named in
     let acted_is : target_acted t a.move ≡ after = ap (λ (m : Move). target_acted t m) move_is ∙ acted-working u k (Go n) s g.acted_is in
-    let left : Target = leaves t (connected k Choosing) a.unit in
-    let e : settles left (with_room rooms t (target_acted t a.move)) ≡ settles left (with_room rooms t after) = ap (λ (x : Target). settles left (with_room rooms t x)) acted_is in
-    let f : settles left (with_room rooms t after) ≡ settles left after = ap (λ (x : Bool). settles left (if_fits x t after)) g.fits in
-    let h : settles left after ≡ after = ap (λ (x : Bool). leaves_where x left after) g.shown in
-    a.after ∙ e ∙ f ∙ h
+    let e : with_room rooms t (target_acted t a.move) ≡ after = ap (λ (x : Target). with_room rooms t x) acted_is ∙ ap (λ (x : Bool). if_fits x t after) g.fits in
+    let settled : Settles after t' = subst (λ (x : Target). Settles x t') e a.after in
+    rw g.shown at settled
 
 acts_where : (atn : Bool) (rooms : List ℕ) (t t' : Target) (c : Connection) → atn ≡ false → Chooses (Working c) atn rooms 0 t t' → Acts rooms 0 t c t'
 acts_where true rooms t t' c e m = absurd cc

@@ -46,7 +46,7 @@ no_unit (suc (suc (suc (suc (suc (suc zero)))))) = refl
 no_unit (suc (suc (suc (suc (suc (suc (suc k))))))) = refl
 
 -- every other LUN has no unit
-unit_at-other : (u : LogicalUnit) (k : ℕ) → unit_at (slots u) (suc k) ≡ None
+pub unit_at-other : (u : LogicalUnit) (k : ℕ) → unit_at (slots u) (suc k) ≡ None
 unfolding unit_at
 unit_at-other u k = no_unit k
 
@@ -110,7 +110,7 @@ asked-of_one (Commanded n taken) e = e
 asked-of_one (Working c) e = e
 asked-of_one (Straying s n) e = absurd cc
 
-zero-of : (n : ℕ) → n == 0 ≡ true → n ≡ 0
+pub zero-of : (n : ℕ) → n == 0 ≡ true → n ≡ 0
 zero-of n e = grind (arith, nat_tests)
 
 -- a task leaves the bus
@@ -272,7 +272,7 @@ pub kept-left : (t : Target) (c : Connection) → IsKept t → IsKept (at_lun t 
 kept-left t c k = told_so (λ x. at_lun x c.lun (leaves x c)) t (λ u l q e. left-kept u l c q e) k
 
 -- no unit of it is rogue, so a selection leads to its message
-quiet-of : (r : RigUnit) → is_usual r ≡ true → r.rogue ≡ false
+pub quiet-of : (r : RigUnit) → is_usual r ≡ true → r.rogue ≡ false
 quiet-of r e = grind arith
 
 pub not_rogue : (t : Target) → IsKept t → is_rogue t ≡ false

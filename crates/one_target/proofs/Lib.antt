@@ -11,3 +11,5 @@ pub mod Memory
 pub mod Fitting
 pub mod Keeping
 pub mod Between
+pub mod Calling
+pub mod Openings

@@ -3,7 +3,7 @@ use Rattle.std.proofs.Common.{◌≡◌, ℕ, zero, suc, ◌≤◌, true, nat_le
 use Rattle.std.proofs.lemmas.Bool.Decides.{nat_tests}
 use Rattle.rig_types.specs.declared.rig.Unit.{Unit as RigUnit}
 use Rattle.target_law.specs.Target.{LogicalUnit, Free, unit_at, with_unit, unit_opened, target_opened}
-use Rattle.one_target.specs.Bus.{all_fit}
+use Rattle.scsi_target.specs.Devices.{lie_within}
 
 -- the eight places of its units
 abbrev pub slots : LogicalUnit → List (Option LogicalUnit)
@@ -22,7 +22,8 @@ unfolding target_opened with_unit
 opened-slots r e = rw e refl
 
 -- there is room for a log that is short
-none_fits : (us : List (Option LogicalUnit)) (rooms : List ℕ) → ((rs : List ℕ) → all_fit us rs ≡ true) → all_fit (None ∷ us) rooms ≡ true
+none_fits : (us : List (Option LogicalUnit)) (rooms : List ℕ) → ((rs : List ℕ) → lie_within us rs ≡ true) → lie_within (None ∷ us) rooms ≡ true
+unfolding lie_within
 none_fits us [] f = refl
 none_fits us (r ∷ rs) f = f rs
 
@@ -30,18 +31,19 @@ nones : ℕ → List (Option LogicalUnit)
 nones zero = []
 nones (suc n) = None ∷ nones n
 
-nones_fit : (n : ℕ) (rooms : List ℕ) → all_fit (nones n) rooms ≡ true
-unfolding nones
+nones_fit : (n : ℕ) (rooms : List ℕ) → lie_within (nones n) rooms ≡ true
+unfolding nones lie_within
 nones_fit zero rooms = refl
 nones_fit (suc n) rooms = none_fits (nones n) rooms (nones_fit n)
 
-all_none : (rooms : List ℕ) → all_fit (None ∷ None ∷ None ∷ None ∷ None ∷ None ∷ None ∷ []) rooms ≡ true
+all_none : (rooms : List ℕ) → lie_within (None ∷ None ∷ None ∷ None ∷ None ∷ None ∷ None ∷ []) rooms ≡ true
 unfolding nones
 all_none rooms = nones_fit 7 rooms
 
 fits_first : (n room : ℕ) → n ≤ 8 → 8 ≤ room → nat_le n room ≡ true
 fits_first n room l h = let k : n ≤ room = omega arith in grind (arith, nat_tests)
 
-pub slots-fit : (u : LogicalUnit) (rooms : List ℕ) → 8 ≤ get_or rooms 0 0 → length u.log ≤ 8 → all_fit (slots u) rooms ≡ true
+pub slots-fit : (u : LogicalUnit) (rooms : List ℕ) → 8 ≤ get_or rooms 0 0 → length u.log ≤ 8 → lie_within (slots u) rooms ≡ true
+unfolding lie_within
 slots-fit u [] h l = absurd (omega arith)
 slots-fit u (r ∷ rs) h l = rw (fits_first (length u.log) r l h) (all_none rs)

@@ -1,6 +1,6 @@
 -- The bus of one target, whose units keep the rules. The bus keeps ATN and ACK and the phase that was asked for last, and knows the room of
 -- each log. Sources: SCSI-2 6.1 phases, 6.2.1 attention condition; own are the live ticket, and what a target does whose log is full.
-use Rattle.std.specs.Prelude.{◌≡◌, ℕ, nat_le, ◌==◌, ◌&&◌, not, if◌then◌else◌, is_none, Bool, true, false, List, [], ◌∷◌, length, Option, Some, None, ◌⊎◌}
+use Rattle.std.specs.Prelude.{◌≡◌, ℕ, ◌==◌, ◌&&◌, not, if◌then◌else◌, is_none, Bool, true, false, List, length, Option, Some, None, ◌⊎◌}
 use Rattle.scsi_words.specs.declared.phases.kinds.Phase.{Phase as BusPhase}
 use Rattle.scsi_words.specs.declared.phases.kinds.Phase.TheVariants as phase
 use Rattle.chip_step.specs.Event.{Event, Phase, Shown, ByteIn, ByteOut, Select, Reselect, SetAtn, ClearAck, Leave}
@@ -13,6 +13,7 @@ use Rattle.target_law.specs.Bytes.{Connection}
 use Rattle.target_law.specs.Target.{LogicalUnit, Link, Working, Target, unit_at, linked, leaves}
 use Rattle.target_law.specs.Calls.{is_free, link_phase, nexus_of, whole_by, target_selected, target_acted, asked_by, link_byte, sent_if, link_takes, took_if, target_messaged, target_acked, target_begun}
 use Rattle.target_law.specs.Lawful.{NamesOf}
+use Rattle.scsi_target.specs.Devices.{DeviceState, lie_within}
 
 -- a bus with its one target: how many entries each log may have, by LUN; ATN and ACK; and the phase that was asked for last
 pub record BusState : Type 0 where
@@ -22,23 +23,13 @@ pub record BusState : Type 0 where
   pub ack : Bool
   pub asked : Option BusPhase
 
--- every log is within its room
-abbrev pub log_fits : Option LogicalUnit → ℕ → Bool
-log_fits (Some u) room = nat_le (length u.log) room
-log_fits None room = true
-
-abbrev pub all_fit : List (Option LogicalUnit) → List ℕ → Bool
-all_fit [] rooms = true
-all_fit (u ∷ us) [] = true
-all_fit (u ∷ us) (room ∷ rooms) = log_fits u room && all_fit us rooms
-
 -- a call whose entries don't fit changes nothing
 abbrev pub if_fits : Bool → (old new : Target) → Target
 if_fits true old new = new
 if_fits false old new = old
 
 abbrev pub with_room : List ℕ → (old new : Target) → Target
-with_room rooms old new = if_fits (all_fit new.units rooms) old new
+with_room rooms old new = if_fits (lie_within new.units rooms) old new
 
 -- the target has changed; where it has left the bus free, neither ATN nor ACK stays asserted
 abbrev pub become : Bool → BusState → Target → BusState
@@ -75,19 +66,30 @@ is_to_choose l = not (is_free l) && is_none (link_phase l)
 
 -- A target that is to choose makes the move that the word names. One whose log has no room for the move's entries leaves the bus, its task away
 -- as by DISCONNECT.
-abbrev pub leaves_where : Bool → (left after : Target) → Target
-leaves_where true left after = left
-leaves_where false left after = after
+pub record LeavesBus (t t' : Target) : Type 0 where
+  pub connection : Connection
+  pub working : t.link ≡ Working connection
+  pub unit : LogicalUnit
+  pub unit_is : unit_at t.units connection.lun ≡ Some unit
+  pub left : t' ≡ leaves t connection unit
 
-abbrev pub settles : (left after : Target) → Target
-settles left after = leaves_where (is_to_choose after.link) left after
+abbrev pub SettlesWhere : (to_choose : Bool) → (t t' : Target) → Type 0
+SettlesWhere true t t' = LeavesBus t t'
+SettlesWhere false t t' = t' ≡ t
+
+abbrev pub Settles : (t t' : Target) → Type 0
+Settles t t' = SettlesWhere (is_to_choose t.link) t t'
 
 pub record Acts (rooms : List ℕ) (word : ℕ) (t : Target) (c : Connection) (t' : Target) : Type 0 where
   pub unit : LogicalUnit
   pub unit_is : unit_at t.units c.lun ≡ Some unit
   pub move : Move
   pub named : NamesOf unit c word move
-  pub after : t' ≡ settles (leaves t c unit) (with_room rooms t (target_acted t move))
+  pub after : Settles (with_room rooms t (target_acted t move)) t'
+
+abbrev pub ActsAt : Link → List ℕ → (word : ℕ) → (t t' : Target) → Type 0
+ActsAt (Working c) rooms word t t' = Acts rooms word t c t'
+ActsAt _ rooms word t t' = ⊥
 
 -- while ATN is asserted it shows MSG_OUT instead
 abbrev pub Chooses : Link → (atn : Bool) → List ℕ → (word : ℕ) → (t t' : Target) → Type 0
@@ -171,3 +173,7 @@ moves b (Leave word gone) b' = Turns word b b' × (gone ≡ is_free b'.target.li
 
 abbrev pub signals_of : BusState → Signals
 signals_of b = record { free = is_free b.target.link; atn = b.atn; ack = b.ack; shown = link_phase b.target.link }
+
+-- the bus of a device, with its lines and the phase that was asked for
+abbrev pub bus_of : DeviceState → (atn ack : Bool) → Option BusPhase → BusState
+bus_of d atn ack asked = record { target = d.target; rooms = d.rooms; atn = atn; ack = ack; asked = asked }

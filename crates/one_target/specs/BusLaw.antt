@@ -6,9 +6,9 @@ use Rattle.chip_step.specs.Event.{Event, Phase, Shown, ByteIn, ByteOut, Select, 
 use Rattle.chip_step.specs.Laws.{IsLawful}
 use Rattle.chip_step.specs.declared.scsi_bus.Settled.TheVariants.{Selected, Reselected, TimedOut}
 use Rattle.target_law.specs.Bytes.{Connection}
-use Rattle.target_law.specs.Target.{Link, Free, Greeted, Commanded, Working, Straying, Target, linked, leaves}
+use Rattle.target_law.specs.Target.{Link, Free, Greeted, Commanded, Working, Straying, Target, linked}
 use Rattle.target_law.specs.Calls.{is_free, link_phase, link_byte, link_takes, took_if, sent_if, target_acted}
-use Rattle.one_target.specs.Bus.{BusState, with_room, become, begins, is_to_choose, leaves_where, Acts, Chooses, ChoosesWhere, GoesOn, TurnsWhere, ack_by, ComesIn, StaysOut, SelectsWhere, acked_where, moves, signals_of}
+use Rattle.one_target.specs.Bus.{BusState, with_room, become, begins, is_to_choose, SettlesWhere, Acts, Chooses, ChoosesWhere, GoesOn, TurnsWhere, ack_by, ComesIn, StaysOut, SelectsWhere, acked_where, moves, signals_of}
 
 -- no phase is shown, and the target isn't to choose: the bus is free
 free_where : (free : Bool) (shown : Option BusPhase) → shown ≡ None → not free && is_none shown ≡ false → free ≡ true
@@ -28,15 +28,14 @@ become-target true b t = refl
 become-target false b t = refl
 
 -- after the turn of a target that is to choose and then shows nothing, the bus is free
-settles-free : (still : Bool) (left after : Target) → is_to_choose after.link ≡ still → is_free left.link ≡ true → link_phase (leaves_where still left after).link ≡ None → is_free (leaves_where still left after).link ≡ true
-settles-free true left after e f h = f
-settles-free false left after e f h = free_where (is_free after.link) (link_phase after.link) h e
+settles-free : (still : Bool) (t t' : Target) → is_to_choose t.link ≡ still → SettlesWhere still t t' → link_phase t'.link ≡ None → is_free t'.link ≡ true
+settles-free true t t' e m h = ap (λ (x : Target). is_free x.link) m.left
+settles-free false t t' e m h = ap (λ (x : Target). is_free x.link) m ∙ free_where (is_free t.link) (link_phase t.link) (ap (λ (x : Target). link_phase x.link) (sym m) ∙ h) e
 
 acts-free : (b : BusState) (word : ℕ) (t t' : Target) (c : Connection) → Acts b.rooms word t c t' → link_phase t'.link ≡ None → is_free t'.link ≡ true
 acts-free b word t t' c a h =
     let after : Target = with_room b.rooms t (target_acted t a.move) in
-    let e : link_phase (leaves_where (is_to_choose after.link) (leaves t c a.unit) after).link ≡ None = ap (λ (x : Target). link_phase x.link) (sym a.after) ∙ h in
-    ap (λ (x : Target). is_free x.link) a.after ∙ settles-free (is_to_choose after.link) (leaves t c a.unit) after refl refl e
+    settles-free (is_to_choose after.link) after t' refl a.after h
 
 chooses-free : (l : Link) (atn : Bool) (b : BusState) (word : ℕ) (t t' : Target) → Chooses l atn b.rooms word t t' → link_phase t'.link ≡ None → is_free t'.link ≡ true
 chooses-free (Working c) true b word t t' m h = let e : Some MsgOut ≡ None = ap (λ (x : Target). link_phase x.link) (sym m) ∙ h in absurd cc

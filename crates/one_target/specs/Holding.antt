@@ -4,7 +4,8 @@ use Rattle.rig_types.specs.declared.rig.Unit.{Unit as RigUnit}
 use Rattle.target_law.specs.declared.showing.Showing.{Showing}
 use Rattle.target_law.specs.declared.showing.Showing.TheVariants.{Saying}
 use Rattle.target_law.specs.Target.{LogicalUnit, Link, Free, Greeted, Commanded, Working, Straying}
-use Rattle.one_target.specs.Bus.{BusState}
+use Rattle.scsi_target.specs.Devices.{DeviceState, lie_within}
+use Rattle.one_target.specs.Bus.{BusState, bus_of}
 
 -- a unit that keeps the rules, is there, and has a place for a task
 abbrev pub is_usual : RigUnit → Bool
@@ -32,7 +33,13 @@ abbrev pub awaits_ack : Link → Bool
 awaits_ack (Working c) = is_said c.shows
 awaits_ack _ = false
 
+-- the logs lie within their rooms
 pub record IsHeld (b : BusState) : Type 0 where
+  pub fits : lie_within b.target.units b.rooms ≡ true
   pub alone : is_alone b.target.units ≡ true
   pub of_one : is_of_one b.target.link ≡ true
   pub acknowledges : b.ack ≡ true → awaits_ack b.target.link ≡ true
+
+-- the same of the device alone
+abbrev pub IsHeldDevice : DeviceState → Type 0
+IsHeldDevice d = IsHeld (bus_of d false false None)

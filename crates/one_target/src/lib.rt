@@ -3,6 +3,9 @@
 //! report that host memory then holds fits the unit's log.
 #![tactic(auto)]
 
+mod bus;
 mod laws;
+mod turn;
 
+pub use bus::OneBus;
 pub use laws::{bus_is_lawful, bus_stays_held, read_has_one_answer, report_fits_the_log};

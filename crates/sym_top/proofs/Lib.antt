@@ -2,3 +2,6 @@ pub mod Decimals
 pub mod Exact
 pub mod OneCause
 pub mod Printing
+pub mod Buffers
+pub mod OneTexts
+pub mod OneCommand

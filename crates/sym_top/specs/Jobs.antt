@@ -8,6 +8,7 @@ use Rattle.source_files.specs.Sources.{source_text}
 use Rattle.source_files.specs.Images.{image_bytes, words_line}
 use Rattle.source_files.specs.FileListing.{IsFileListing}
 use Rattle.sym_top.specs.CommandLine.{Command, one, asm, list}
+use Rattle.sym_top.specs.OneText.{IsOneText}
 
 -- a file to be stored
 pub record Output : Type 0 where
@@ -48,7 +49,7 @@ pub record HasSourceFault (source : List ℕ) (line fault : ℕ) : Type 0 where
 
 -- the command makes this job of the files
 abbrev pub Makes : Command → Option FilesByName → Job → Type 0
-Makes (one lba) files job = job.output ≡ None
+Makes (one lba) files job = IsOneText lba job.text × (job.output ≡ None)
 Makes (asm file out) files job = (source : List ℕ) × IsFile files file source × IsAssembly source out job
 Makes (list file) files job = (image : List ℕ) × IsFile files file image × IsFileListing image job.text × (job.output ≡ None)
 

@@ -3,8 +3,7 @@ pub mod Calls
 pub mod Causes
 pub mod CommandLine
 pub mod Exits
+pub mod OneText
 pub mod Jobs
 pub mod Making
-pub mod PlainUnits
 pub mod Refusals
-pub mod UnitLaws

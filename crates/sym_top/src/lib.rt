@@ -9,7 +9,6 @@ mod laws;
 mod making;
 mod numbers;
 mod one;
-mod plain_unit;
 mod refusal;
 
 pub use answer::answer_alone;

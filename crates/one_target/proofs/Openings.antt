@@ -1,0 +1,50 @@
+-- The bus as it is opened.
+use Rattle.std.proofs.Common.{◌≡◌, ◌+◌, ◌≤◌, true, false, [], ◌∷◌, length, get_or, refl, ap, sym, ◌∙◌, subst, arith, Option, Some, None, lit≤}
+use Rattle.rig_types.specs.declared.rig.Pattern.TheVariants.{Count}
+use Rattle.rig_types.specs.declared.rig.Unit.{Unit as RigUnit}
+use Rattle.target_law.specs.Target.{LogicalUnit, Free, Target, unit_at, unit_opened, target_opened}
+use Rattle.target_law.specs.Lawful.{IsThere}
+use Rattle.scsi_target.specs.Devices.{DeviceState, device_opened, lie_within, HasUnit}
+use Rattle.one_target.specs.Bus.{bus_of}
+use Rattle.one_target.specs.Holding.{is_usual, IsHeld}
+use Rattle.one_target.specs.Opening.{one_unit, IsOpened}
+use Rattle.one_target.proofs.Slots.{slots, unit_at-slots, opened-slots, slots-fit}
+use Rattle.one_target.proofs.Keeping.{IsKept}
+use Rattle.one_target.proofs.Between.{held}
+
+opened-alone : (r : RigUnit) → r.lun ≡ 0 → is_usual r ≡ true → (t : Target) → t ≡ target_opened (r ∷ []) → IsKept t
+opened-alone r z e t o =
+    let is : t ≡ record { units = slots (unit_opened r); link = Free } = o ∙ opened-slots r z in
+    subst IsKept (sym is) (record { alone = record { unit = unit_opened r; units_are = refl; usual = e }; of_one = refl })
+
+opened-unit : (r : RigUnit) → r.lun ≡ 0 → (t : Target) → t ≡ target_opened (r ∷ []) → unit_at t.units 0 ≡ Some (unit_opened r)
+opened-unit r z t o =
+    ap (λ (x : Target). unit_at x.units 0) (o ∙ opened-slots r z) ∙ unit_at-slots (unit_opened r)
+
+pub opened-has : (r : RigUnit) → r.lun ≡ 0 → (d : DeviceState) → d ≡ device_opened (r ∷ []) → HasUnit d 0
+opened-has r z d o = subst (λ (u : Option LogicalUnit). IsThere u (λ v. Unit {0})) (sym (opened-unit r z d.target (ap (λ (x : DeviceState). x.target) o))) tt
+
+-- the device after its room was made
+pub record Roomy (r : RigUnit) (d : DeviceState) : Type 0 where
+  pub target_is : d.target ≡ target_opened (r ∷ [])
+  pub room : 8 ≤ get_or d.rooms 0 0
+
+pub roomy : (r : RigUnit) → r.lun ≡ 0 → (d d' : DeviceState) → d ≡ device_opened (r ∷ []) → d'.target ≡ d.target → IsThere (unit_at d.target.units 0) (λ u. length u.log + 8 ≤ get_or d'.rooms 0 0) → Roomy r d'
+roomy r z d d' o t m =
+    let there : unit_at d.target.units 0 ≡ Some (unit_opened r) = opened-unit r z d.target (ap (λ (x : DeviceState). x.target) o) in
+    let room : length (unit_opened r).log + 8 ≤ get_or d'.rooms 0 0 = subst (λ (u : Option LogicalUnit). IsThere u (λ v. length v.log + 8 ≤ get_or d'.rooms 0 0)) there m in
+    record { target_is = t ∙ ap (λ (x : DeviceState). x.target) o; room = omega arith }
+
+pub opened-held : (r : RigUnit) → r.lun ≡ 0 → is_usual r ≡ true → (d : DeviceState) → Roomy r d → IsHeld (bus_of d false false None)
+opened-held r z e d h =
+    let is : d.target ≡ record { units = slots (unit_opened r); link = Free } = h.target_is ∙ opened-slots r z in
+    let fits : lie_within d.target.units d.rooms ≡ true = ap (λ (x : Target). lie_within x.units d.rooms) is ∙ slots-fit (unit_opened r) d.rooms h.room (lit≤ tt) in
+    held (bus_of d false false None) (opened-alone r z e d.target h.target_is) fits (λ f. absurd cc)
+
+-- the unit of the code is that of the definitions
+pub the_unit : one_unit ≡ record { target = 0; lun = 0; blocks = 64; pattern = Count; depth = 1; disconnects = 0; refusals = 0; absent = false; rogue = false }
+unfolding one_unit
+the_unit = refl
+
+pub is-opened : (r : RigUnit) → one_unit ≡ r → (d : DeviceState) → Roomy r d → IsOpened (bus_of d false false None)
+is-opened r e d h = record { target_is = h.target_is ∙ ap (λ (x : RigUnit). target_opened (x ∷ [])) (sym e); room = h.room; atn = refl; ack = refl }
