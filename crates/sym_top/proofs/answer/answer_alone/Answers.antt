@@ -1,4 +1,4 @@
-use Rattle.std.proofs.Common.{◌≡◌, refl, sym, inl, inr}
+use Rattle.std.proofs.Common.{◌≡◌, refl, inl, inr}
 use Rattle.sym_top.specs.Asked.{asked}
 use Rattle.sym_top.proofs.OneCommand.{one_command, refuses-answered}
 use Rattle.sym_top.proofs.answer.answer_alone.Goals as goal
