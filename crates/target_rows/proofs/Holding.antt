@@ -1,0 +1,263 @@
+-- A target with its one unit, of LUN 3: what the calls of the device want.
+use Rattle.std.proofs.Common.{◌≡◌, ℕ, zero, suc, ◌||◌, Bool, true, false, List, [], ◌∷◌, refl, ap, sym, ◌∙◌, subst, inl, inr, Option, Some, None, slice_get}
+use Rattle.std.specs.Prelude.{◌<◌, ◌≤◌, ◌↔◌, ◌&&◌, not, nat_lt, if◌then◌else◌, is_some, IsTrue}
+use Rattle.std.proofs.Common.{arith}
+use Rattle.std.proofs.lemmas.Bool.Decides.{nat_tests}
+use Rattle.scsi_words.specs.declared.phases.kinds.Phase.{Phase}
+use Rattle.target_rows.specs.Calls.{is_message_in}
+use Rattle.std.specs.List.{list_any}
+use Rattle.scsi_words.specs.declared.phases.kinds.Phase.TheVariants as phase
+use Rattle.rig_types.specs.declared.rig.Unit.{Unit as RigUnit}
+use Rattle.target_law.specs.declared.showing.Showing.{Showing}
+use Rattle.target_law.specs.declared.showing.Showing.TheVariants.{Choosing, Hearing, Sending, Receiving, Telling, Saying}
+use Rattle.target_law.specs.declared.stray.Stray.{Stray}
+use Rattle.target_law.specs.declared.stray.Stray.TheVariants as stray
+use Rattle.target_law.specs.declared.nexus.Nexus.{Nexus}
+use Rattle.target_law.specs.Bytes.{Connection, phase_of, byte_by, sent_by}
+use Rattle.target_law.specs.Strays.{stray_phase, stray_byte, stray_sent}
+use Rattle.target_law.specs.Target.{LogicalUnit, Link, Free, Greeted, Commanded, Working, Straying, Target, unit_at, with_unit, target_opened}
+use Rattle.target_law.specs.Calls.{is_free, link_phase, link_byte, sent_if, candidates, slot_is_rogue, is_rogue, IsToChoose, WaitsForAck}
+use Rattle.scsi_target.specs.Devices.{DeviceState, lie_within, where_room}
+use Rattle.target_rows.proofs.Rigs.{Same}
+use Rattle.target_law.specs.Lawful.{IsThere}
+use Rattle.target_rows.specs.Rigs.{rigs, alone, IsPresent, IsHeld}
+
+pub opened-rigs : (r : RigUnit) → r.lun ≡ 3 → rigs (target_opened (r ∷ [])).units ≡ alone r
+unfolding target_opened with_unit
+opened-rigs r e = rw e refl
+
+-- the unit of a place
+there-by : (us : List (Option LogicalUnit)) (n : ℕ) (r : RigUnit) → slice_get (rigs us) n ≡ Some (Some r) → IsThere (unit_at us n) (λ u. u.rig ≡ r)
+unfolding unit_at
+there-by [] n r e = cc
+there-by (None ∷ us) zero r e = cc
+there-by (Some u ∷ us) zero r e = cc
+there-by (x ∷ us) (suc n) r e = there-by us n r e
+
+there-weak : (o : Option LogicalUnit) (r : RigUnit) → IsThere o (λ u. u.rig ≡ r) → IsThere o (λ u. Unit {0})
+there-weak (Some u) r e = tt
+there-weak None r e = e
+
+pub unit-there : (us : List (Option LogicalUnit)) (r : RigUnit) → IsHeld us r → IsThere (unit_at us r.lun) (λ u. Unit {0})
+unit-there us r h =
+    subst (λ n. IsThere (unit_at us n) (λ u. Unit {0})) (sym h.unit.lun)
+    (there-weak (unit_at us 3) r (there-by us 3 r (ap (λ rs. slice_get rs 3) h.rigs_are)))
+
+-- no unit is absent
+rig-by : (us : List (Option LogicalUnit)) (n : ℕ) → IsThere (unit_at us n) (λ u. u.rig.absent ≡ true) → (r : RigUnit) × (slice_get (rigs us) n ≡ Some (Some r)) × (r.absent ≡ true)
+unfolding unit_at
+rig-by [] n e = absurd e
+rig-by (None ∷ us) zero e = absurd e
+rig-by (Some u ∷ us) zero e = (u.rig, refl, e)
+rig-by (x ∷ us) (suc n) e = rig-by us n e
+
+alone-by : (r s : RigUnit) (n : ℕ) → slice_get (alone r) n ≡ Some (Some s) → r ≡ s
+alone-by r s zero e = cc
+alone-by r s (suc zero) e = cc
+alone-by r s (suc (suc zero)) e = cc
+alone-by r s (suc (suc (suc zero))) e = cc
+alone-by r s (suc (suc (suc (suc zero)))) e = cc
+alone-by r s (suc (suc (suc (suc (suc zero))))) e = cc
+alone-by r s (suc (suc (suc (suc (suc (suc zero)))))) e = cc
+alone-by r s (suc (suc (suc (suc (suc (suc (suc zero))))))) e = cc
+alone-by r s (suc (suc (suc (suc (suc (suc (suc (suc n)))))))) e = cc
+
+pub none-absent : (us : List (Option LogicalUnit)) (r : RigUnit) → IsHeld us r → (lun : ℕ) × IsThere (unit_at us lun) (λ u. u.rig.absent ≡ true) → ⊥
+none-absent us r h a =
+    let s : (x : RigUnit) × (slice_get (rigs us) a.0 ≡ Some (Some x)) × (x.absent ≡ true) = rig-by us a.0 a.1 in
+    let same : r ≡ s.0 = alone-by r s.0 a.0 (ap (λ rs. slice_get rs a.0) (sym h.rigs_are) ∙ s.1) in
+    let f : r.absent ≡ true = ap (λ (x : RigUnit). x.absent) same ∙ s.2 in
+    let g : r.absent ≡ false = h.unit.present in
+    absurd cc
+
+-- whether the units break the rules
+abbrev breaks : Option RigUnit → Bool
+breaks None = false
+breaks (Some r) = r.rogue
+
+rogue-by : (us : List (Option LogicalUnit)) → list_any slot_is_rogue us ≡ list_any breaks (rigs us)
+rogue-by [] = refl
+rogue-by (None ∷ us) = ap (λ b. false || b) (rogue-by us)
+rogue-by (Some u ∷ us) = ap (λ b. u.rig.rogue || b) (rogue-by us)
+
+or-false : (b : Bool) → (b || false) ≡ b
+or-false true = refl
+or-false false = refl
+
+pub rogue-is : (t : Target) (r : RigUnit) → IsHeld t.units r → is_rogue t ≡ r.rogue
+unfolding is_rogue
+rogue-is t r h = rogue-by t.units ∙ ap (λ rs. list_any breaks rs) h.rigs_are ∙ or-false r.rogue
+
+-- connected, and no phase is shown
+shows-none : (s : Showing) → phase_of s ≡ None → s ≡ Choosing
+shows-none Choosing e = refl
+shows-none Hearing e = cc
+shows-none (Sending n) e = cc
+shows-none (Receiving n) e = cc
+shows-none (Telling v) e = cc
+shows-none (Saying n sent) e = cc
+
+stray-none : (s : Stray) → stray_phase s ≡ None → s ≡ stray.Choosing
+stray-none stray.Choosing e = refl
+stray-none stray.Hearing e = cc
+stray-none (stray.Sending left b) e = cc
+stray-none (stray.Receiving left) e = cc
+stray-none (stray.Commanding left) e = cc
+stray-none (stray.Telling b) e = cc
+stray-none (stray.Saying b sent) e = cc
+stray-none (stray.Naming p sent) e = cc
+
+pub to-choose : (l : Link) → is_free l ≡ false → link_phase l ≡ None → IsToChoose l
+to-choose Free e f = cc
+to-choose (Greeted heard) e f = cc
+to-choose (Commanded n taken) e f = cc
+to-choose (Working c) e f = shows-none c.shows f
+to-choose (Straying s n) e f = stray-none s f
+
+-- a byte of a message was sent
+waits-working : (s : Showing) (c : Connection) (b : ℕ) → c.shows ≡ s → phase_of s ≡ Some phase.MsgIn → byte_by s c.task c.lun ≡ Some b → WaitsForAck (Working (sent_by s c))
+waits-working Choosing c b i e f = cc
+waits-working Hearing c b i e f = cc
+waits-working (Sending n) c b i e f = cc
+waits-working (Receiving n) c b i e f = cc
+waits-working (Telling v) c b i e f = cc
+waits-working (Saying n sent) c b i e f = (n, refl)
+
+waits-stray : (s : Stray) (n : Option Nexus) (b : ℕ) → stray_phase s ≡ Some phase.MsgIn → stray_byte s n ≡ Some b → WaitsForAck (Straying (stray_sent s) n)
+waits-stray stray.Choosing n b e f = cc
+waits-stray stray.Hearing n b e f = cc
+waits-stray (stray.Sending left x) n b e f = cc
+waits-stray (stray.Receiving left) n b e f = cc
+waits-stray (stray.Commanding left) n b e f = cc
+waits-stray (stray.Telling x) n b e f = cc
+waits-stray (stray.Saying x sent) n b e f = inl (x, refl)
+waits-stray (stray.Naming p sent) n b e f = inr (p, refl)
+
+waits-by : (l : Link) (b : ℕ) → link_phase l ≡ Some phase.MsgIn → link_byte l ≡ Some b → WaitsForAck (sent_if (Some b) l)
+waits-by Free b e f = cc
+waits-by (Greeted heard) b e f = cc
+waits-by (Commanded n taken) b e f = cc
+waits-by (Working c) b e f = waits-working c.shows c b refl e f
+waits-by (Straying s n) b e f = waits-stray s n b e f
+
+pub waits : (l : Link) (b : ℕ) → link_phase l ≡ Some phase.MsgIn → link_byte l ≡ Some b → WaitsForAck (sent_if (link_byte l) l)
+waits l b e f = subst (λ o. WaitsForAck (sent_if o l)) (sym f) (waits-by l b e f)
+
+-- the other way round
+shows-choosing : (s : Showing) → s ≡ Choosing → phase_of s ≡ None
+shows-choosing s e = ap phase_of e
+
+pub choosing-free : (l : Link) → IsToChoose l → is_free l ≡ false
+choosing-free Free i = absurd i
+choosing-free (Greeted heard) i = absurd i
+choosing-free (Commanded n taken) i = absurd i
+choosing-free (Working c) i = refl
+choosing-free (Straying s n) i = refl
+
+pub choosing-none : (l : Link) → IsToChoose l → link_phase l ≡ None
+choosing-none Free i = absurd i
+choosing-none (Greeted heard) i = absurd i
+choosing-none (Commanded n taken) i = absurd i
+choosing-none (Working c) i = ap phase_of i
+choosing-none (Straying s n) i = ap stray_phase i
+
+-- what holds goes on to hold where the rigs stay
+pub held-same : (us vs : List (Option LogicalUnit)) (r : RigUnit) → IsHeld us r → rigs vs ≡ rigs us → IsHeld vs r
+held-same us vs r h e = record { rigs_are = e ∙ h.rigs_are; unit = h.unit }
+
+room-by : (fits : Bool) (d : DeviceState) (t : Target) (r : RigUnit) → IsHeld d.target.units r → Same d.target t → IsHeld (if fits then record { target = t; rooms = d.rooms } else d).target.units r
+room-by true d t r h e = held-same d.target.units t.units r h e
+room-by false d t r h e = h
+
+pub held-room : (d : DeviceState) (t : Target) (r : RigUnit) → IsHeld d.target.units r → Same d.target t → IsHeld (where_room d t).target.units r
+unfolding where_room
+held-room d t r h e = room-by (lie_within t.units d.rooms) d t r h e
+
+-- what is known of the unit of LUN 3
+pub at-three : (us : List (Option LogicalUnit)) (r : RigUnit) (P : LogicalUnit → Type 0) → IsHeld us r → IsThere (unit_at us r.lun) P → IsThere (unit_at us 3) P
+at-three us r P h p = subst (λ n. IsThere (unit_at us n) P) h.unit.lun p
+
+below-by : (o : Option LogicalUnit) (n count : ℕ) → IsThere o (λ u. count ≡ candidates u) → n < count → IsThere o (λ u. n < candidates u)
+below-by (Some u) n count e l = subst (λ x. n < x) e l
+below-by None n count e l = e
+
+pub below : (us : List (Option LogicalUnit)) (lun n count : ℕ) → IsThere (unit_at us lun) (λ u. count ≡ candidates u) → n < count → IsThere (unit_at us lun) (λ u. n < candidates u)
+below us lun n count e l = below-by (unit_at us lun) n count e l
+
+some-byte : (o : Option ℕ) → is_some o ≡ true → (b : ℕ) × (o ≡ Some b)
+some-byte None e = absurd cc
+some-byte (Some b) e = (b, refl)
+
+pub waits-after : (l : Link) (byte : Option ℕ) → byte ≡ link_byte l → is_some byte ≡ true → link_phase l ≡ Some phase.MsgIn → WaitsForAck (sent_if (link_byte l) l)
+waits-after l byte e s p =
+    let b : (x : ℕ) × (byte ≡ Some x) = some-byte byte s in
+    waits l b.0 p (sym e ∙ b.1)
+
+pub held-where : (d d' : DeviceState) (t : Target) (r : RigUnit) → IsHeld d.target.units r → Same d.target t → d' ≡ where_room d t → IsHeld d'.target.units r
+held-where d d' t r h e f = subst (λ (x : DeviceState). IsHeld x.target.units r) (sym f) (held-room d t r h e)
+
+pub held-by : (d d' : DeviceState) (t : Target) (r : RigUnit) → IsHeld d.target.units r → Same d.target t → d' ≡ record { target = t; rooms = d.rooms } → IsHeld d'.target.units r
+held-by d d' t r h e f = subst (λ (x : DeviceState). IsHeld x.target.units r) (sym f) (held-same d.target.units t.units r h e)
+
+pub held-opened : (d : DeviceState) (r : RigUnit) → IsPresent r → d.target ≡ target_opened (r ∷ []) → IsHeld d.target.units r
+held-opened d r p e = record { rigs_are = ap (λ (t : Target). rigs t.units) e ∙ opened-rigs r p.lun; unit = p }
+
+pub held-target : (d d' : DeviceState) (r : RigUnit) → IsHeld d.target.units r → d'.target ≡ d.target → IsHeld d'.target.units r
+held-target d d' r h e = subst (λ (t : Target). IsHeld t.units r) (sym e) h
+
+pub is-in : (o : Option Phase) → is_message_in o ≡ true → o ≡ Some phase.MsgIn
+is-in None e = cc
+is-in (Some phase.DataOut) e = cc
+is-in (Some phase.DataIn) e = cc
+is-in (Some phase.Command) e = cc
+is-in (Some phase.Status) e = cc
+is-in (Some phase.MsgOut) e = cc
+is-in (Some phase.MsgIn) e = refl
+
+-- no reselection of a connected target, nor of a task that isn't there
+no-free : (o : Option LogicalUnit) (n : ℕ) (free : Bool) → IsThere o (λ u. Unit {0}) → free ≡ false → IsThere o (λ u. false ≡ (free && nat_lt n (candidates u)))
+no-free (Some u) n true t e = absurd cc
+no-free (Some u) n false t e = refl
+no-free None n free t e = t
+
+not-free : (free bound : Bool) → bound ≡ not free → bound ≡ true → free ≡ false
+not-free true bound e f = absurd cc
+not-free false bound e f = refl
+
+pub stays-connected : (i d : DeviceState) (r : RigUnit) (n : ℕ) (bound : Bool) → IsHeld i.target.units r → i ≡ d → bound ≡ not (is_free i.target.link) → bound ≡ true → IsThere (unit_at d.target.units 3) (λ u. false ≡ (is_free d.target.link && nat_lt n (candidates u)))
+stays-connected i d r n bound h e b f =
+    subst (λ (x : DeviceState). IsThere (unit_at x.target.units 3) (λ u. false ≡ (is_free x.target.link && nat_lt n (candidates u)))) e
+    (no-free (unit_at i.target.units 3) n (is_free i.target.link) (at-three i.target.units r (λ u. Unit {0}) h (unit-there i.target.units r h)) (not-free (is_free i.target.link) bound b f))
+
+and-false : (a b : Bool) → b ≡ false → false ≡ (a && b)
+and-false true b e = sym e
+and-false false b e = refl
+
+not-below : (n count : ℕ) → count ≤ n → nat_lt n count ≡ false
+not-below n count l = grind (arith, nat_tests)
+
+no-such : (o : Option LogicalUnit) (n count : ℕ) (free : Bool) → IsThere o (λ u. count ≡ candidates u) → count ≤ n → IsThere o (λ u. false ≡ (free && nat_lt n (candidates u)))
+no-such (Some u) n count free e l = and-false free (nat_lt n (candidates u)) (not-below n (candidates u) (subst (λ x. x ≤ n) e l))
+no-such None n count free e l = e
+
+pub stays-without : (i d : DeviceState) (r : RigUnit) (n count : ℕ) → IsHeld i.target.units r → i ≡ d → IsThere (unit_at i.target.units r.lun) (λ u. count ≡ candidates u) → count ≤ n → IsThere (unit_at d.target.units 3) (λ u. false ≡ (is_free d.target.link && nat_lt n (candidates u)))
+stays-without i d r n count h e c l =
+    subst (λ (x : DeviceState). IsThere (unit_at x.target.units 3) (λ u. false ≡ (is_free x.target.link && nat_lt n (candidates u)))) e
+    (no-such (unit_at i.target.units 3) n count (is_free i.target.link) (at-three i.target.units r (λ u. count ≡ candidates u) h c) l)
+
+-- whether the target hears of ATN
+abbrev Asks : DeviceState → Type 0
+Asks d = (is_rogue d.target ≡ false) × IsToChoose d.target.link
+
+pub asks-rogue : (i d : DeviceState) (r : RigUnit) → IsHeld i.target.units r → i ≡ d → r.rogue ≡ true → IsTrue false ↔ Asks d
+asks-rogue i d r h e f =
+    let g : is_rogue d.target ≡ true = subst (λ (x : DeviceState). is_rogue x.target ≡ true) e (rogue-is i.target r h ∙ f) in
+    (λ t. absurd cc, λ a. let k : is_rogue d.target ≡ false = a.0 in absurd cc)
+
+pub asks-not : (d : DeviceState) (is : Bool) → is ≡ false → (IsToChoose d.target.link → IsTrue is) → IsTrue false ↔ Asks d
+asks-not d is e f = (λ t. absurd cc, λ a. subst (λ (x : Bool). IsTrue x) e (f a.1))
+
+pub asks-so : (i d : DeviceState) (r : RigUnit) (is : Bool) → IsHeld i.target.units r → i ≡ d → r.rogue ≡ false → is ≡ true → (IsTrue is → IsToChoose d.target.link) → IsTrue true ↔ Asks d
+asks-so i d r is h e f g k =
+    let a : is_rogue d.target ≡ false = subst (λ (x : DeviceState). is_rogue x.target ≡ false) e (rogue-is i.target r h ∙ f) in
+    (λ t. (a, k (subst (λ (x : Bool). IsTrue x) (sym g) t)), λ b. refl)

@@ -1,0 +1,14 @@
+use Rattle.std.proofs.Common.{ap}
+use Rattle.scsi_target.specs.Devices.{DeviceState}
+use Rattle.target_rows.proofs.Holding.{unit-there, held-opened, held-target}
+use Rattle.target_rows.proofs.initiator.Initiator.open.Goals as goal
+
+pub reserve-requires : goal.reserve-requires
+reserve-requires c =
+    unit-there c.in_ok-device.device.target.units c.args.unit.now
+    (held-opened c.in_ok-device.device c.args.unit.now c.requires (ap (λ (d : DeviceState). d.target) c.in_ok-device.ensures))
+
+pub invariant_of-result : goal.invariant_of-result
+invariant_of-result c =
+    held-target c.in_ok-device.device c.reserve.new.self c.args.unit.now
+    (held-opened c.in_ok-device.device c.args.unit.now c.requires (ap (λ (d : DeviceState). d.target) c.in_ok-device.ensures)) c.reserve.ensures.target

@@ -1,0 +1,12 @@
+//! Tests that cross crates: a target with one unit, run through whole commands.
+#![tactic(auto)]
+
+#[cfg(test)]
+mod commands;
+mod initiator;
+#[cfg(test)]
+mod resets;
+#[cfg(test)]
+mod rogue;
+
+pub use initiator::Initiator;
