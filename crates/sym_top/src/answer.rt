@@ -21,9 +21,10 @@ use sym_io::{Shelf, Sink};
 /// line of a refusal to `err`. It always returns.
 ///
 /// `Usage` comes exactly where the words are no command with its count of words, or a number is out of range. Of the
-/// others `WriteFault` comes only where the count of faults of `out` rose, or the shelf's; after it a prefix of the
-/// text is on `out`, and with every other status but `Ok` nothing is, and the shelf's files are as before. A failing
-/// `err` changes nothing.
+/// others `ReadFault` comes only where the shelf's count of faults rose, `WriteFault` only where it or that of `out`
+/// did, `BadSource` only where the assembler refuses the source, and `TooLong` only where a file is longer than
+/// 4,194,304 bytes. After `WriteFault` a prefix of the text is on `out`; with every other status but `Ok` nothing is,
+/// and the shelf's files are as before. A failing `err` changes nothing.
 pub fn answer_alone<F: Shelf, O: Sink, E: Sink>(
     alloc: Global,
     words: &[Text],
