@@ -6,9 +6,13 @@ use Rattle.bench_words.specs.Memory.{word_at, put_word}
 use Rattle.bench_words.specs.Views.{Apart, Wrote}
 use Rattle.bench_words.proofs.MemoryLaws.{wrote-put_word}
 use Rattle.host_map.specs.Places.{IsBlockPlace}
-use Rattle.cmd_block.specs.Block.{IsField, offset, field_of}
+use Rattle.cmd_block.specs.Block.{IsField, offset, field_of, IsLayout}
 use Rattle.cmd_block.specs.declared.Field.{Field}
 use Rattle.cmd_block.specs.declared.Field.TheVariants.{Start, Restart, Lastp, Savep, State, Status, Sel, Gate, MsgCount, MsgAt, CmdCount, CmdAt, StatCount, StatAt, SegCount, SegAt, CtxCount, CtxAt, CtxReturn}
+
+-- the constants of the code are those of the layout
+pub is_layout : IsLayout
+is_layout = record { message = refl; command = refl; sense = refl; states = (refl, refl, refl, refl, refl) }
 
 -- a field is an aligned word below the message bytes
 pub offset_fits : (f : Field) → IsField f → (offset f + 4 ≤ 0xE0) × (offset f % 4 ≡ 0)

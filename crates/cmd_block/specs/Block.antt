@@ -1,6 +1,7 @@
 -- The layout of a command block (own).
-use Rattle.std.specs.Prelude.{ℕ, ◌+◌, ◌*◌, ◌<◌, List}
+use Rattle.std.specs.Prelude.{◌≡◌, ℕ, ◌+◌, ◌*◌, ◌<◌, List}
 use Rattle.bench_words.specs.Memory.{word_at}
+use Rattle.cmd_block.specs.declared.TheConstants.{MESSAGE, CDB, SENSE, LIVE, ENDED, CUT, NO_TARGET, SWEPT}
 use Rattle.cmd_block.specs.declared.Field.{Field}
 use Rattle.cmd_block.specs.declared.Field.TheVariants.{Start, Restart, Lastp, Savep, State, Status, Sel, Gate, MsgCount, MsgAt, CmdCount, CmdAt, StatCount, StatAt, SegCount, SegAt, CtxCount, CtxAt, CtxReturn}
 
@@ -38,3 +39,10 @@ offset (CtxReturn j) = 0xC8 + 0x10 * j
 -- a field of a block, in memory
 abbrev pub field_of : List ℕ → ℕ → Field → ℕ
 field_of m block f = word_at m (block + offset f)
+
+-- the ranges behind the fields, and the values of STATE
+pub record IsLayout : Type 0 where
+  pub message : MESSAGE ≡ 0xE0
+  pub command : CDB ≡ 0xF0
+  pub sense : SENSE ≡ 0x100
+  pub states : (LIVE ≡ 0) × (ENDED ≡ 1) × (CUT ≡ 2) × (NO_TARGET ≡ 3) × (SWEPT ≡ 4)

@@ -1,1 +1,2 @@
+pub mod PrintedLaws
 pub mod ScriptLaws

@@ -7,6 +7,7 @@ ghost use Rattle.scripts_ops.specs.declared.values.Op.TheVariants.{Nop};
 ghost use Rattle.driver_script.specs.declared.script.TheConstants.{SCRIPT};
 ghost use Rattle.bench_words.specs.Memory.{word_at};
 ghost use Rattle.bench_words.specs.Views.{WroteWithin};
+ghost use Rattle.driver_script.specs.Printed.{printed_word};
 ghost use Rattle.driver_script.specs.Script.{IsVersion, instruction, image, laid, IsLoaded};
 
 mod labels;
@@ -22,7 +23,7 @@ use scripts_ops::{Condition, Op, encode};
 /// The number of instructions, of two words each.
 pub const INSTRUCTIONS: u32 = 151;
 /// The number of words.
-pub const SCRIPT_WORDS: u32 = 302;
+pub const SCRIPT_WORDS: u32 = 2 * INSTRUCTIONS;
 
 /// Instruction `k` of version 1, below 151.
 fn first_version(k: u32) -> Op
@@ -49,12 +50,13 @@ pub fn instruction(k: u32, version: u8) -> Op
     }
 }
 
-/// Word `n` of the script, which lies at the address 4 * `n`. `n` is below 302, `version` is 1 or 2.
-#[tactic(auto, using(crate::proofs::ScriptLaws::instruction_fields), unfolding(crate::specs::Script::image))]
+/// Word `n` of the script, as it is printed, which lies at the address 4 * `n`. `n` is below 302, `version` is 1 or 2.
+#[tactic(auto, using(crate::proofs::ScriptLaws::instruction_fields))]
 pub fn image(n: u32, version: u8) -> u32
     requires inside { n < 302 }
     requires version { IsVersion version }
-    ensures { result ≡ image n version }
+    ensures word { result ≡ image n version }
+    ensures printed { result ≡ printed_word n version }
 {
     let op = instruction(n / 2, version);
     encode(&op).words[(n % 2) as usize]

@@ -11,7 +11,7 @@ pub loop-n-preserved : goal.loop-n-preserved
 loop-n-preserved c =
     record {
       size = c.set.ensures.size ∙ c.loop-n.invariant.size;
-      so_far = c.set.ensures.wrote ∙ ap (λ (m : List ℕ). put_word m (4 * c.loop-n.n) c.image.result) c.loop-n.invariant.so_far ∙ ap (λ (w : ℕ). put_word (laid c.args.words.now c.args.version c.loop-n.n) (4 * c.loop-n.n) w) c.image.ensures ∙ sym (laid-more c.args.words.now c.args.version c.loop-n.n);
+      so_far = c.set.ensures.wrote ∙ ap (λ (m : List ℕ). put_word m (4 * c.loop-n.n) c.image.result) c.loop-n.invariant.so_far ∙ ap (λ (w : ℕ). put_word (laid c.args.words.now c.args.version c.loop-n.n) (4 * c.loop-n.n) w) c.image.ensures.word ∙ sym (laid-more c.args.words.now c.args.version c.loop-n.n);
     }
 
 whole : goal.returns-clause-wrote
