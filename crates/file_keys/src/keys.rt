@@ -1,6 +1,6 @@
 //! The readers of keys.
 
-ghost use Rattle.std.specs.Prelude.{true, ◌≡◌, ◌*◌, ◌≤◌, ◌<◌, ◌==◌, ◌++◌, ⊤, if◌then◌else◌, length, map, codes, IfOk, IfErr, IfSome, MatchOption, option_map, Some, None, string_bytes};
+ghost use Rattle.std.specs.Prelude.{true, ◌≡◌, ◌*◌, ◌≤◌, ◌<◌, ◌==◌, ◌++◌, ⊤, if◌then◌else◌, length, map, codes, IfOk, IfErr, IfSome, IsSome, MatchOption, option_map, Some, None, string_bytes};
 ghost use Rattle.std.specs.Option.{ForSome};
 ghost use Rattle.std.specs.Fmt.{decimal};
 ghost use Rattle.rig_types.specs.declared.fault.ReadFault.TheVariants as faults;
@@ -55,6 +55,7 @@ pub fn number_in(
     ensures reads { let found = as_integer (view value.now) in
         Reads result (option_map (at (prefix.now ++ name.now)) (number_fault least most found)) (λ n. n ≡ natural found) }
     ensures in_range { IfOk result (λ n. (least ≤ n) × (n ≤ most)) }
+    ensures fails { IfErr result (λ _. IsSome (number_fault least most (as_integer (view value.now)))) }
 {
     match value.as_integer() {
         None => Err(fault(alloc, prefix, name, BadKind::WrongType)),
@@ -81,6 +82,8 @@ pub fn number(
     ensures reads { let key = number_key name.now least most default in
         Reads result (key_fault prefix.now key (table_view table.now)) (λ n. n ≡ value_of key (table_view table.now)) }
     ensures in_range { IfOk result (λ n. (least ≤ n) × (n ≤ most)) }
+    ensures fails { let key = number_key name.now least most default in
+        IfErr result (λ _. IsSome (key_fault prefix.now key (table_view table.now))) }
 {
     match find(table, name) {
         None => match default {
@@ -118,6 +121,8 @@ pub fn choice(
     ensures reads { let key = choice_key name.now (map (λ w. w.now) words.now) default in
         Reads result (key_fault prefix.now key (table_view table.now)) (λ n. n ≡ value_of key (table_view table.now)) }
     ensures in_range { IfOk result (λ n. n < length words.now) }
+    ensures fails { let key = choice_key name.now (map (λ w. w.now) words.now) default in
+        IfErr result (λ _. IsSome (key_fault prefix.now key (table_view table.now))) }
 {
     match find(table, name) {
         None => match default {
@@ -142,8 +147,10 @@ pub fn flag(
     name: &str,
     default: bool,
 ) -> Result<bool, ReadFault>
-    ensures { let key = flag_key name.now (Some (if default then 1 else 0)) in
+    ensures reads { let key = flag_key name.now (Some (if default then 1 else 0)) in
         Reads result (key_fault prefix.now key (table_view table.now)) (λ b. (if b then 1 else 0) ≡ value_of key (table_view table.now)) }
+    ensures fails { let key = flag_key name.now (Some (if default then 1 else 0)) in
+        IfErr result (λ _. IsSome (key_fault prefix.now key (table_view table.now))) }
 {
     match find(table, name) {
         None => Ok(default),
@@ -169,6 +176,8 @@ pub fn list<'a>(
     ensures reads { let key = list_key name.now least most (if least == 0 then Some 0 else None) in
         Reads result (key_fault prefix.now key (table_view table.now)) (λ vs. items_view vs.now ≡ items_of key (table_view table.now)) }
     ensures in_range { IfOk result (λ vs. (least ≤ length vs.now) × (length vs.now ≤ most)) }
+    ensures fails { let key = list_key name.now least most (if least == 0 then Some 0 else None) in
+        IfErr result (λ _. IsSome (key_fault prefix.now key (table_view table.now))) }
 {
     match find(table, name) {
         None => {
@@ -275,7 +284,8 @@ pub fn table_at<'a>(
     name: &str,
     n: usize,
 ) -> Result<&'a Table, ReadFault>
-    ensures { Reads result (entry_fault prefix.now name.now n (view value.now)) (λ t. view value.now ≡ table (table_view t.now)) }
+    ensures reads { Reads result (entry_fault prefix.now name.now n (view value.now)) (λ t. view value.now ≡ table (table_view t.now)) }
+    ensures fails { IfErr result (λ _. IsSome (entry_fault prefix.now name.now n (view value.now))) }
 {
     match value.as_table() {
         Some(table) => Ok(table),
@@ -308,7 +318,8 @@ pub fn refuse_unknown(
     prefix: &str,
     names: &[&str],
 ) -> Result<(), ReadFault>
-    ensures { Reads result (unknown_fault prefix.now (map (λ n. n.now) names.now) (table_view table.now)) (λ _. ⊤) }
+    ensures reads { Reads result (unknown_fault prefix.now (map (λ n. n.now) names.now) (table_view table.now)) (λ _. ⊤) }
+    ensures fails { IfErr result (λ _. IsSome (unknown_fault prefix.now (map (λ n. n.now) names.now) (table_view table.now))) }
 {
     for key in table.keys() {
         if !is_known(names, key.as_str()) {
