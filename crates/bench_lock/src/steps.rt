@@ -53,7 +53,7 @@ pub(crate) fn look<M: Machine>(
     requires waits { (seat.old.me.0.has_ticket ≡ true) × (seat.old.me.0.turn ≡ false) × (seat.old.me.0.ticket ≡ ticket) }
     ensures seat { IsSameSeat seat.old seat.new }
     ensures served { IfNone result ((y : _) × Takes M.opening M.list seat.old.me y seat.new.me) }
-    ensures waits { IfSome result (λ _. seat.new.me ≡ seat.old.me) }
+    ensures waits { IfSome result (λ served. (served ≢ ticket) × (seat.new.me ≡ seat.old.me)) }
 {
     let serving = table.load::<Look<M>>(seat, SERVING);
     if serving == ticket {

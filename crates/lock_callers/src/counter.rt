@@ -1,14 +1,21 @@
-//! A sum with a limit, which contracts see as the limit and the list of the steps that made it.
-ghost use Rattle.std.specs.Prelude.{◌≡◌, ◌+◌, ◌≤◌, ◌<◌, ◌^◌, [], length, IfSome, is_some};
-ghost use Rattle.lock_callers.specs.Counted.{Counted, sum_of};
+//! A sum with a limit, which contracts see as its bounds and the list of the steps that made it.
+ghost use Rattle.std.specs.Prelude.{◌≡◌, ◌+◌, ◌^◌, ◌≤◌, ◌<◌, [], length, IfOk, MatchOption, is_some, vec_capacity};
+ghost use Rattle.lock_callers.specs.Counted.{Counted, IsFull, sum_of};
 
 use bench_lock::{Entry, Machine};
-use std::alloc::Global;
+use std::alloc::{AllocError, Global};
 use std::marker::Model;
+
+/// The most that a counter's sum may be, and the most steps that it takes.
+#[derive(Clone, Copy)]
+pub struct Bounds {
+    pub limit: u64,
+    pub most: u32,
+}
 
 #[derive(Drop)]
 pub struct Counter {
-    limit: u64,
+    bounds: Bounds,
     sum: u64,
     log: Vec<Entry<u32>>,
 }
@@ -16,20 +23,22 @@ pub struct Counter {
 impl Model for Counter {
     ghost Value = { Counted };
 
-    ghost view = { λ s. record { limit = s.limit; list = s.log.items } };
+    ghost view = { λ s. record { bounds = s.bounds; list = s.log.items } };
 
-    ghost invariant = { λ s. (s.sum ≡ sum_of s.log.items) × (length s.log.items < 2 ^ 32) };
+    ghost invariant = { λ s. (s.sum ≡ sum_of s.log.items) × (s.sum ≤ s.bounds.limit) × (length s.log.items ≤ s.bounds.most) × (s.bounds.most < 2 ^ 32) × (s.bounds.most ≤ vec_capacity s.log) };
 }
 
 impl Counter {
-    pub fn new(alloc: Global, limit: u64) -> Counter
-        ensures { (result.limit ≡ limit) × (result.list ≡ []) }
+    /// A counter at 0. Only this call takes memory.
+    pub fn new(alloc: Global, bounds: Bounds) -> Result<Counter, AllocError>
+        ensures { IfOk result (λ c. (c.bounds ≡ bounds) × (c.list ≡ [])) }
     {
-        Counter {
-            limit,
+        let log = Vec::with_capacity(alloc, bounds.most as usize)?;
+        Ok(Counter {
+            bounds,
             sum: 0,
-            log: Vec::new(alloc),
-        }
+            log,
+        })
     }
 
     pub fn sum(&self) -> u64
@@ -50,23 +59,20 @@ impl Machine for Counter {
 
     type Reply = Option<u64>;
 
-    type Opening = u64;
+    type Opening = Bounds;
 
-    ghost opening = { λ s. s.limit };
+    ghost opening = { λ s. s.bounds };
 
     ghost list = { λ s. s.list };
 
-    ghost allows = { λ limit es by x reply. IfSome reply (λ n. (n ≡ sum_of es + x) × (n ≤ limit)) };
+    ghost allows = { λ bounds es by x reply. MatchOption reply (IsFull bounds es x) (λ n. (n ≡ sum_of es + x) × (n ≤ bounds.limit) × (length es < bounds.most)) };
 
-    ghost records = { λ limit reply. is_some reply };
+    ghost records = { λ bounds reply. is_some reply };
 
-    /// Adds the step to the sum. None where it would exceed the limit, or memory is wanting.
+    /// Adds the step to the sum. None exactly where there is no room for it.
     fn step(&mut self, caller: u32, step: u32) -> Option<u64> {
-        let Counter { limit, sum, log } = self;
-        if log.len() >= 4_294_967_295 || *sum > *limit || u64::from(step) > *limit - *sum {
-            return None;
-        }
-        if log.reserve(1).is_err() {
+        let Counter { bounds, sum, log } = self;
+        if log.len() >= bounds.most as usize || u64::from(step) > bounds.limit - *sum {
             return None;
         }
         log.push_reserved(Entry { caller, step });

@@ -1,5 +1,5 @@
 //! Real threads: they end, and the list has each caller's entries in their order.
-use crate::{Counter, run};
+use crate::{Bounds, Counter, run};
 use std::test::Fail;
 
 const CALLERS: u32 = 6;
@@ -8,13 +8,12 @@ const STEPS: u32 = 2_000;
 
 #[test]
 fn callers_in_threads(rt: HostRuntime) -> Result<(), Fail> {
-    let counter = run(
-        &rt,
-        rt.alloc(),
-        Counter::new(rt.alloc(), u64::MAX),
-        CALLERS,
-        STEPS,
-    )?;
+    let bounds = Bounds {
+        limit: u64::MAX,
+        most: 12_000,
+    };
+    let counter = Counter::new(rt.alloc(), bounds)?;
+    let counter = run(&rt, rt.alloc(), counter, CALLERS, STEPS)?;
     assert_eq!(rt; counter.entries().len(), 12_000);
     // each caller's steps add up to 2,000 * 1,999 / 2
     assert_eq!(rt; counter.sum(), 6 * 1_999_000);
