@@ -1,13 +1,15 @@
 //! The real sink and the real shelf: a few lines over std, which are trusted to reach the system.
 
-ghost use Rattle.std.specs.Prelude.{◌≡◌, ◌≢◌, ◌≤◌, None};
+ghost use Rattle.std.specs.IoError.{error_kind};
+ghost use Rattle.std.specs.Prelude.{◌≡◌, ◌≢◌, ◌<◌, ◌≤◌, ◌↔◌, IfOk, IfSome, IsNone, None, length};
 ghost use Rattle.sym_io.specs.Causes.{Rose};
-ghost use Rattle.sym_io.specs.declared.shelf.ShelfFault.TheVariants.{Failed, TooLong};
+ghost use Rattle.sym_io.specs.declared.shelf.ShelfFault.TheVariants.{Failed, OutOfMemory, TooLong};
 
 use crate::shelf::{Shelf, ShelfFault};
 use crate::sink;
 use crate::sink::Sink;
 use scsi_words::Bytes;
+use std::alloc::Global;
 use std::io::{ErrorKind, Read, Write};
 use std::rt::Files;
 use std::{fs, io};
@@ -61,11 +63,13 @@ impl<R: Files + AllocGlobal> RealShelf<R> {
         RealShelf { rt, faults: 0 }
     }
 
-    // The fault of an error, which is counted.
+    // The fault of an error, which is counted where it isn't want of memory.
     fn fault_of(&mut self, error: io::Error) -> ShelfFault
+        ensures want { (result ≡ OutOfMemory) ↔ (error_kind error ≡ ErrorKind.OutOfMemory) }
         ensures never_long { result ≢ TooLong }
         ensures later { self.old.faults ≤ self.new.faults }
         ensures failed { result ≡ Failed → Rose self.old.faults self.new.faults }
+        ensures steady { result ≢ Failed → self.new.faults ≡ self.old.faults }
     {
         if error.kind() == ErrorKind::OutOfMemory {
             return ShelfFault::OutOfMemory;
@@ -75,11 +79,25 @@ impl<R: Files + AllocGlobal> RealShelf<R> {
     }
 }
 
-// The first bytes of a file, at most `most`.
-fn first_bytes<R: Files + AllocGlobal>(rt: &R, name: &str, most: u64) -> io::Result<Vec<u8>> {
-    let mut bytes = Vec::new(rt.alloc());
-    fs::open(rt, name)?.take(most).read_to_end(&mut bytes)?;
-    Ok(bytes)
+// All the bytes that a reader gives, of which there are at most `limit`; `None` where there are more.
+fn within<R: Read + Drop>(alloc: Global, reader: R, limit: u32) -> io::Result<Option<Bytes>>
+    ensures whole { IfOk result (λ found. IfSome found (λ bytes. IfSome (R.remaining reader) (λ all. bytes ≡ all))) }
+    ensures within { IfOk result (λ found. IfSome found (λ bytes. length bytes ≤ limit)) }
+    ensures long { IfOk result (λ found. IsNone found → IfSome (R.remaining reader) (λ all. limit < length all)) }
+{
+    let mut bytes = Vec::new(alloc);
+    reader.take(u64::from(limit) + 1).read_to_end(&mut bytes)?;
+    if bytes.len() > limit as usize {
+        return Ok(None);
+    }
+    Ok(Some(Bytes::of(bytes)))
+}
+
+// The bytes of a file, of which there are at most `limit`; `None` where there are more.
+fn file_within<R: Files + AllocGlobal>(rt: &R, name: &str, limit: u32) -> io::Result<Option<Bytes>>
+    ensures { IfOk result (λ found. IfSome found (λ bytes. length bytes ≤ limit)) }
+{
+    within(rt.alloc(), fs::open(rt, name)?, limit)
 }
 
 impl<R: Files + AllocGlobal> Shelf for RealShelf<R> {
@@ -88,9 +106,9 @@ impl<R: Files + AllocGlobal> Shelf for RealShelf<R> {
     ghost faults = { λ s. s.faults };
 
     fn load(&mut self, name: &str, limit: u32) -> Result<Bytes, ShelfFault> {
-        match first_bytes(&self.rt, name, u64::from(limit) + 1) {
-            Ok(bytes) if bytes.len() <= limit as usize => Ok(Bytes::of(bytes)),
-            Ok(_) => Err(ShelfFault::TooLong),
+        match file_within(&self.rt, name, limit) {
+            Ok(Some(bytes)) => Ok(bytes),
+            Ok(None) => Err(ShelfFault::TooLong),
             Err(error) => Err(self.fault_of(error)),
         }
     }

@@ -5,3 +5,4 @@ pub mod Printing
 pub mod Buffers
 pub mod OneTexts
 pub mod OneCommand
+pub mod Within

@@ -2,10 +2,11 @@
 use Rattle.std.proofs.Common.{◌≡◌, ℕ, List, [], ◌∷◌, sym, ap, ◌∙◌, arith, subst, inl, inr}
 use Rattle.std.specs.Prelude.{codes}
 use Rattle.std.proofs.lemmas.Fmt.{decimal_injective}
-use Rattle.sym_top.specs.Calls.{Ends, Refuses, Leaves}
+use Rattle.sym_top.specs.Calls.{Ends, Refuses}
 use Rattle.sym_top.specs.Refusals.{IsSource, Stands}
 use Rattle.sym_top.specs.declared.refusal.Refusal.{Refusal}
 use Rattle.sym_top.specs.declared.refusal.Refusal.TheVariants as refusals
+use Rattle.sym_top.proofs.Within.{fault-short}
 use Rattle.sym_top.specs.CommandLine.{Command, one, asm, list, Spells, IsNumber}
 
 one_number : (word : List ℕ) (m n : ℕ) → IsNumber word m → IsNumber word n → m ≡ n
@@ -26,12 +27,12 @@ one_command words (list file) (asm file' out) e f = absurd (let both : codes "li
 one_command words (list file) (list file') e f = let both : codes "list" ∷ file ∷ [] ≡ codes "list" ∷ file' ∷ [] = sym e ∙ f in cc
 
 -- the refusal that is answered comes for a cause of its own
-left_of : (c : Command) (e : Ends) (refusal : Refusal) → IsSource refusal → Refuses c e refusal → Leaves e
+left_of : (c : Command) (e : Ends) (refusal : Refusal) → IsSource refusal → Refuses c e refusal → Refuses c e refusals.OutOfMemory
 left_of c e refusals.Usage i r = absurd i
 left_of c e refusals.Read i r = absurd i
 left_of c e refusals.Write i r = absurd i
 left_of c e refusals.OutOfMemory i r = absurd i
-left_of c e (refusals.Source line fault) i r = r.1
+left_of c e (refusals.Source line fault) i r = (fault-short c e.shelf.files line fault r.0, r.1, r.2)
 left_of c e refusals.TooLong i r = absurd i
 
 pub refuses-answered : (c : Command) (e : Ends) (refusal answered : Refusal) → Stands refusal answered → Refuses c e refusal → Refuses c e answered

@@ -4,7 +4,7 @@ use Rattle.std.specs.Option.{option_map}
 use Rattle.std.specs.Io.KnownBytes.{Appends}
 use Rattle.sym_io.specs.ByName.{FilesByName, with_file}
 use Rattle.sym_io.specs.Causes.{Rose}
-use Rattle.sym_top.specs.Jobs.{Job, Output, Makes, IsLong, HasFault}
+use Rattle.sym_top.specs.Jobs.{Job, Output, Makes, IsLong, IsShort, HasFault}
 use Rattle.sym_top.specs.CommandLine.{Command}
 use Rattle.sym_top.specs.Refusals.{exit_of, Says}
 use Rattle.sym_top.specs.declared.exit.Exit.{Exit}
@@ -41,14 +41,16 @@ ends files loads files' loads' written faults written' faults' = record {
 pub record Leaves (e : Ends) : Type 0 where
   pub files : e.shelf'.files ≡ e.shelf.files
   pub out : e.out'.written ≡ e.out.written
+  pub steady : e.out'.faults ≡ e.out.faults
 
 -- the shelf after a job's file was stored, where it has one
 abbrev pub files_with : Option Output → Option FilesByName → Option FilesByName
 files_with None files = files
 files_with (Some o) files = option_map (λ held. with_file held o.name o.bytes) files
 
--- all is done: the job's file is stored, and its text is printed
+-- all is done: the job's file is stored, its text is printed, and nothing failed
 pub record Done (job : Job) (e : Ends) : Type 0 where
+  pub steady : (e.shelf'.faults ≡ e.shelf.faults) × (e.out'.faults ≡ e.out.faults)
   pub stored : e.shelf'.files ≡ files_with job.output e.shelf.files
   pub printed : Appends e.out.written e.out'.written job.text
 
@@ -60,17 +62,18 @@ pub record Unstored (e : Ends) : Type 0 where
 -- the output failed: the job's file is stored, and a prefix of its text is printed
 pub record Unprinted (job : Job) (e : Ends) : Type 0 where
   pub rose : Rose e.out.faults e.out'.faults
+  pub steady : e.shelf'.faults ≡ e.shelf.faults
   pub stored : e.shelf'.files ≡ files_with job.output e.shelf.files
   pub count : ℕ
   pub printed : Appends e.out.written e.out'.written (take count job.text)
 
 -- a file is stored, or refused
 abbrev pub Stores : Output → Option FilesByName → ℕ → Option FilesByName → ℕ → Result (Unit {0}) Refusal → Type 0
-Stores o files faults files' faults' (Ok done) = files' ≡ files_with (Some o) files
+Stores o files faults files' faults' (Ok done) = (faults' ≡ faults) × (files' ≡ files_with (Some o) files)
 Stores o files faults files' faults' (Err refusals.Usage) = ⊥
 Stores o files faults files' faults' (Err refusals.Read) = ⊥
 Stores o files faults files' faults' (Err refusals.Write) = Rose faults faults' × (files' ≡ files)
-Stores o files faults files' faults' (Err refusals.OutOfMemory) = files' ≡ files
+Stores o files faults files' faults' (Err refusals.OutOfMemory) = (faults' ≡ faults) × (files' ≡ files)
 Stores o files faults files' faults' (Err (refusals.Source line fault)) = ⊥
 Stores o files faults files' faults' (Err refusals.TooLong) = ⊥
 
@@ -80,7 +83,7 @@ Finishes job e (Ok done) = Done job e
 Finishes job e (Err refusals.Usage) = ⊥
 Finishes job e (Err refusals.Read) = ⊥
 Finishes job e (Err refusals.Write) = Unstored e ⊎ Unprinted job e
-Finishes job e (Err refusals.OutOfMemory) = Leaves e
+Finishes job e (Err refusals.OutOfMemory) = (e.shelf'.faults ≡ e.shelf.faults) × Leaves e
 Finishes job e (Err (refusals.Source line fault)) = ⊥
 Finishes job e (Err refusals.TooLong) = ⊥
 
@@ -89,8 +92,8 @@ abbrev pub Refuses : Command → Ends → Refusal → Type 0
 Refuses c e refusals.Usage = ⊥
 Refuses c e refusals.Read = Rose e.shelf.faults e.shelf'.faults × Leaves e
 Refuses c e refusals.Write = (job : Job) × Makes c e.shelf.files job × (Unstored e ⊎ Unprinted job e)
-Refuses c e refusals.OutOfMemory = Leaves e
-Refuses c e (refusals.Source line fault) = HasFault c e.shelf.files line fault × Leaves e
+Refuses c e refusals.OutOfMemory = IsShort c e.shelf.files × (e.shelf'.faults ≡ e.shelf.faults) × Leaves e
+Refuses c e (refusals.Source line fault) = HasFault c e.shelf.files line fault × (e.shelf'.faults ≡ e.shelf.faults) × Leaves e
 Refuses c e refusals.TooLong = IsLong c e.shelf.files × (e.shelf'.faults ≡ e.shelf.faults) × Leaves e
 
 -- a command has run, or is refused

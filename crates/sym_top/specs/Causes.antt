@@ -1,6 +1,6 @@
 -- Where the shelf tells its files, the causes of the answers exclude each other: so an answer that isn't blamed on a
 -- count of faults or on want of memory comes exactly where its cause holds.
-use Rattle.std.specs.Prelude.{◌≡◌, ◌⊎◌, ℕ, List, Option, Some}
+use Rattle.std.specs.Prelude.{◌≡◌, ◌⊎◌, ℕ, ◌<◌, List, Option, Some}
 use Rattle.sym_io.specs.ByName.{FilesByName}
 use Rattle.sym_io.specs.Causes.{Rose}
 use Rattle.sym_top.specs.Calls.{Ends, Ended}
@@ -28,8 +28,17 @@ IsOnly exit wanted = (exit ≡ wanted) ⊎ (exit ≡ exits.OutOfMemory)
 pub record IsExact (c : Command) (held : FilesByName) (exit : Exit) : Type 0 where
   pub done : (job : Job) → Makes c (Some held) job → IsOnly exit exits.Ok
   pub bad_source : (line fault : ℕ) → HasFault c (Some held) line fault → IsOnly exit exits.BadSource
-  pub too_long : IsLong c (Some held) → IsOnly exit exits.TooLong
+  pub too_long : IsLong c (Some held) → exit ≡ exits.TooLong
 
 -- Where the files are told and nothing failed, an ended command's status is the one that its files want.
 abbrev pub ExactStatus : Type 0
 ExactStatus = (c : Command) (held : FilesByName) (e : Ends) (written : Option (List ℕ)) (faults : ℕ) (written' : Option (List ℕ)) (faults' : ℕ) (exit : Exit) → e.shelf.files ≡ Some held → NothingFailed e → Ended c e written faults written' faults' exit → IsExact c held exit
+
+-- a count of faults that rose shows in the status
+pub record ShowsFaults (e : Ends) (exit : Exit) : Type 0 where
+  pub shelf : e.shelf.faults < e.shelf'.faults → (exit ≡ exits.ReadFault) ⊎ (exit ≡ exits.WriteFault)
+  pub out : e.out.faults < e.out'.faults → exit ≡ exits.WriteFault
+
+-- No other status, and no want of memory, stands in place of a load, a store or a write that failed.
+abbrev pub FaultsShow : Type 0
+FaultsShow = (c : Command) (e : Ends) (written : Option (List ℕ)) (faults : ℕ) (written' : Option (List ℕ)) (faults' : ℕ) (exit : Exit) → Ended c e written faults written' faults' exit → ShowsFaults e exit

@@ -33,6 +33,10 @@ pub record IsFile (files : Option FilesByName) (name bytes : List ℕ) : Type 0 
 abbrev pub ExceedsLimit : Option FilesByName → List ℕ → Type 0
 ExceedsLimit files name = IfSome files (λ held. file_limit < length (whole_file held name))
 
+-- a file is within the limit, where the shelf tells it
+abbrev pub FitsLimit : Option FilesByName → List ℕ → Type 0
+FitsLimit files name = IfSome files (λ held. length (whole_file held name) ≤ file_limit)
+
 -- the job of `asm`: the words of the source are stored, four bytes each, and their number is printed
 pub record IsAssembly (source name : List ℕ) (job : Job) : Type 0 where
   pub image : Image
@@ -58,6 +62,12 @@ abbrev pub IsLong : Command → Option FilesByName → Type 0
 IsLong (one lba) files = ⊥
 IsLong (asm file out) files = ExceedsLimit files file
 IsLong (list file) files = ExceedsLimit files file
+
+-- no file of the command is too long
+abbrev pub IsShort : Command → Option FilesByName → Type 0
+IsShort (one lba) files = Unit {0}
+IsShort (asm file out) files = FitsLimit files file
+IsShort (list file) files = FitsLimit files file
 
 -- the source of the command has its first fault there
 abbrev pub HasFault : Command → Option FilesByName → ℕ → ℕ → Type 0

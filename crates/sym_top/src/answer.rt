@@ -33,7 +33,7 @@ pub fn answer_alone<F: Shelf, O: Sink, E: Sink>(
     err: &mut E,
 ) -> Exit
     ensures usage { (result ≡ Exit.Usage) ↔ ((c : Asked) → Spells words.now c → ⊥) }
-    ensures unasked { result ≡ Exit.Usage → Leaves (ends (F.files shelf.old) (F.faults shelf.old) (F.files shelf.new) (F.faults shelf.new)
+    ensures unasked { result ≡ Exit.Usage → (F.faults shelf.new ≡ F.faults shelf.old) × Leaves (ends (F.files shelf.old) (F.faults shelf.old) (F.files shelf.new) (F.faults shelf.new)
         (O.written out.old) (O.faults out.old) (O.written out.new) (O.faults out.new)) }
     ensures unasked_line { result ≡ Exit.Usage → Says NoCommand (E.written err.old) (E.faults err.old) (E.written err.new) (E.faults err.new) }
     ensures read_fault { result ≡ Exit.ReadFault → Rose (F.faults shelf.old) (F.faults shelf.new) }

@@ -1,5 +1,5 @@
 //! What holds of every command and its files.
-ghost use Rattle.sym_top.specs.Causes.{ExactStatus, OneCause};
+ghost use Rattle.sym_top.specs.Causes.{ExactStatus, FaultsShow, OneCause};
 
 /// Where the shelf tells its files, a command has a job, or a first fault of its source, or a file that is too long,
 /// and never two of these.
@@ -7,8 +7,14 @@ pub fn one_cause()
     ensures { OneCause }
 {}
 
-/// Where the shelf tells its files and no count of faults rose, a command that has ended answered `Ok` if its files make
-/// a job, `BadSource` if its source has a fault, `TooLong` if a file is too long, or else want of memory.
+/// Where the shelf tells its files and no count of faults rose, a command that has ended answered `TooLong` if a file is
+/// too long, else `Ok` if its files make a job and `BadSource` if its source has a fault, or want of memory.
 pub fn exact_status()
     ensures { ExactStatus }
+{}
+
+/// A command that has ended answered `ReadFault` or `WriteFault` if the shelf's count of faults rose, and `WriteFault` if
+/// that of the output rose.
+pub fn faults_show()
+    ensures { FaultsShow }
 {}

@@ -13,5 +13,5 @@ mod refusal;
 
 pub use answer::answer_alone;
 pub use exit::Exit;
-pub use laws::{exact_status, one_cause};
+pub use laws::{exact_status, faults_show, one_cause};
 pub use straight_run::{Straight, straight};

@@ -1,7 +1,7 @@
 //! The shelf in memory.
 
 ghost use Rattle.std.specs.Option.{option_map};
-ghost use Rattle.std.specs.Prelude.{◌≡◌, ◌≢◌, ◌+◌, ◌-◌, ◌^◌, ◌<◌, ◌≤◌, ◌↔◌, IfOk, IfSome, IsTrue, List, OnErr, OnOk, length, ℕ, Err, Some};
+ghost use Rattle.std.specs.Prelude.{◌≡◌, ◌≢◌, ◌<◌, ◌≤◌, ◌↔◌, IfOk, IfSome, IsTrue, List, OnErr, OnOk, length, ℕ, Err, Some};
 ghost use Rattle.sym_io.specs.ByName.{by_name, whole_file, with_file};
 ghost use Rattle.sym_io.specs.Causes.{Rose, count_up};
 ghost use Rattle.sym_io.specs.Memory.{ShelfState, call_fails, counted, load_fails};
@@ -83,8 +83,8 @@ impl Shelf for MemoryShelf {
         ensures failed { result ≡ Err Failed → Rose self.old.faults self.new.faults }
         ensures only_failing { result ≡ Err Failed → IsTrue (load_fails self.old name.now) }
         ensures long { result ≡ Err TooLong → limit < length (whole_file (by_name self.old.files) name.now) }
-        ensures no_fault { result ≡ Err TooLong → self.new.faults ≡ self.old.faults }
-        ensures refused { limit < length (whole_file (by_name self.old.files) name.now) → self.new.faults < 2 ^ 64 - 1 → self.new.faults ≡ self.old.faults → result ≡ Err TooLong }
+        ensures refused { result ≢ Err Failed → limit < length (whole_file (by_name self.old.files) name.now) → result ≡ Err TooLong }
+        ensures steady { result ≢ Err Failed → self.new.faults ≡ self.old.faults }
     {
         if self.is_failing() {
             return Err(self.fail());
@@ -104,6 +104,7 @@ impl Shelf for MemoryShelf {
         ensures later { self.old.faults ≤ self.new.faults }
         ensures failed { result ≡ Err Failed → Rose self.old.faults self.new.faults }
         ensures never_long { result ≢ Err TooLong }
+        ensures steady { result ≢ Err Failed → self.new.faults ≡ self.old.faults }
     {
         if self.is_failing() {
             return Err(self.fail());

@@ -2,7 +2,7 @@
 
 ghost use Rattle.std.specs.Io.KnownBytes.{WriteAppends};
 ghost use Rattle.std.specs.Io.{WritesAtMost};
-ghost use Rattle.std.specs.Prelude.{◌≡◌, ◌+◌, ◌<◌, ◌≤◌, ◌↔◌, [], if◌then◌else◌, IfOk, IsErr, IsTrue, OnErr, Some, length, vec_len, vec_capacity};
+ghost use Rattle.std.specs.Prelude.{◌≡◌, ◌+◌, ◌<◌, ◌≤◌, ◌⊎◌, ◌↔◌, [], if◌then◌else◌, IfOk, IsErr, IsTrue, OnErr, Some, length, vec_len, vec_capacity};
 ghost use Rattle.sym_io.specs.Causes.{Rose};
 ghost use Rattle.sym_io.specs.Memory.{SinkState, done_write, failed_write, taken, write_fails};
 
@@ -78,6 +78,7 @@ impl Sink for MemorySink {
         ensures later { self.old.faults ≤ self.new.faults }
         ensures failed { OnErr result (Rose self.old.faults self.new.faults) }
         ensures none_taken { IfOk result (λ n. n ≡ 0 → 0 < length piece.now → Rose self.old.faults self.new.faults) }
+        ensures steady { IfOk result (λ n. 0 < n ⊎ (length piece.now ≡ 0) → self.new.faults ≡ self.old.faults) }
     {
         self.calls = self.calls.saturating_add(1);
         let is_full = self.room == 0 && !piece.is_empty();
