@@ -1,8 +1,10 @@
 ghost use Rattle.std.specs.Prelude.{◌≡◌};
+ghost use Rattle.cdb_codec.specs.Forms.{FitsForm, HasForm};
 ghost use Rattle.cdb_codec.specs.declared.commands.Cdb.TheVariants.{Read, Write};
 
 use super::*;
 use scsi_words::Direction;
+use std::alloc::{AllocError, Global};
 use std::test::Fail;
 
 fn read(lba: u32, blocks: u32, six: bool) -> Cdb
@@ -47,15 +49,37 @@ fn reads_each_command(rt: HostRuntime) {
     }
 }
 
+fn is_written(alloc: Global, command: &Cdb, want: &[u8]) -> Result<bool, AllocError>
+    requires form { HasForm command.now }
+    requires fits { FitsForm command.now }
+{
+    let written = write_cdb(alloc, command)?;
+    Ok(written.as_slice() == want)
+}
+
 #[test]
-fn writes_and_needs(rt: HostRuntime) -> Result<(), Fail> {
+fn writes_each_command(rt: HostRuntime) -> Result<(), Fail> {
     let alloc = rt.alloc();
-    let written = write_cdb(alloc, &read(3, 1, false))?;
-    let want = [0x28, 0, 0, 0, 0, 3, 0, 0, 1, 0];
-    assert_eq!(rt; written.as_slice(), want.as_slice());
-    let written = write_cdb(alloc, &write(0x1F_FFFF, 256, true))?;
-    let want = [0x0A, 0x1F, 0xFF, 0xFF, 0, 0];
-    assert_eq!(rt; written.as_slice(), want.as_slice());
+    assert!(rt; is_written(alloc, &Cdb::TestUnitReady, &[0; 6])?);
+    let sense = Cdb::RequestSense { len: 18 };
+    assert!(rt; is_written(alloc, &sense, &[3, 0, 0, 0, 18, 0])?);
+    let inquiry = Cdb::Inquiry { len: 96 };
+    assert!(rt; is_written(alloc, &inquiry, &[0x12, 0, 0, 0, 96, 0])?);
+    let capacity = [0x25, 0, 0, 0, 0, 0, 0, 0, 0, 0];
+    assert!(rt; is_written(alloc, &Cdb::ReadCapacity, &capacity)?);
+    let short = [0x08, 0x01, 0x02, 0x03, 4, 0];
+    assert!(rt; is_written(alloc, &read(0x1_0203, 4, true), &short)?);
+    let long = [0x28, 0, 0, 0, 0, 3, 0, 0, 1, 0];
+    assert!(rt; is_written(alloc, &read(3, 1, false), &long)?);
+    let short = [0x0A, 0x1F, 0xFF, 0xFF, 0, 0];
+    assert!(rt; is_written(alloc, &write(0x1F_FFFF, 256, true), &short)?);
+    let long = [0x2A, 0, 1, 2, 3, 4, 0, 5, 6, 0];
+    assert!(rt; is_written(alloc, &write(0x0102_0304, 0x506, false), &long)?);
+    Ok(())
+}
+
+#[test]
+fn needs_of_commands(rt: HostRuntime) {
     let needs = [
         (Cdb::RequestSense { len: 255 }, Direction::In, 18),
         (Cdb::Inquiry { len: 5 }, Direction::In, 5),
@@ -65,5 +89,4 @@ fn writes_and_needs(rt: HostRuntime) -> Result<(), Fail> {
     for (command, direction, bytes) in needs {
         assert_eq!(rt; need(&command), Need { direction, bytes });
     }
-    Ok(())
 }

@@ -194,5 +194,13 @@ fn listings_show_what_begins_at_each_word(rt: HostRuntime) -> Result<(), Fail> {
         text.as_str(),
         "00000000  98040020 00000003  INT 0x3, IF NOT 0x20\n00000008  98047f80  .word 0x98047f80\n"
     );
+    // a line for each of the 27 instructions
+    let text = list(rt.alloc(), &FORM_WORDS)?;
+    let lines = text.as_str().bytes().filter(|byte| *byte == b'\n').count();
+    assert_eq!(&rt; lines, 27);
+    assert!(&rt;
+        text.as_str()
+            .ends_with("  INT 0x8, IF NOT 0x80 AND MASK 0x7f\n")
+    );
     Ok(())
 }
