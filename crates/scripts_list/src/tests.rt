@@ -2,8 +2,8 @@
 ghost use Rattle.std.specs.Prelude.{◌<◌, length};
 
 use crate::list;
-use scripts_asm::assemble;
-use std::alloc::Global;
+use scripts_asm::{AsmFault, assemble};
+use std::alloc::{AllocError, Global};
 use std::test::Fail;
 
 /// One instruction of each form and condition, and a comment.
@@ -127,13 +127,15 @@ fn makes(alloc: Global, text: &str, words: &[u32]) -> bool
     }
 }
 
-/// The number of the fault and its line.
-fn fault(alloc: Global, text: &str) -> (Option<u8>, Option<u32>)
+/// The number of the fault and its line. Want of memory is an error here, since it would else pass for a text without
+/// a fault.
+fn fault(alloc: Global, text: &str) -> Result<(Option<u8>, Option<u32>), AllocError>
     requires { length text.now < 10000 }
 {
     match assemble(alloc, text) {
-        Ok(_) => (None, None),
-        Err(fault) => (fault.number(), fault.line()),
+        Ok(_) => Ok((None, None)),
+        Err(AsmFault::OutOfMemory) => Err(AllocError),
+        Err(fault) => Ok((fault.number(), fault.line())),
     }
 }
 
@@ -154,26 +156,26 @@ fn texts_make_the_words_of_their_instructions(rt: HostRuntime) {
 #[test]
 fn the_first_fault_counts(rt: HostRuntime) -> Result<(), Fail> {
     let alloc = rt.alloc();
-    assert_eq!(&rt; fault(alloc, "a:\na:"), (Some(4), Some(2)));
-    assert_eq!(&rt; fault(alloc, "JUMP b\nNOP $"), (Some(3), Some(1)));
-    assert_eq!(&rt; fault(alloc, "NOP\nNOP $"), (Some(1), Some(2)));
-    assert_eq!(&rt; fault(alloc, "NOP 5"), (Some(2), Some(1)));
-    assert_eq!(&rt; fault(alloc, "MOVE 0, x, WHEN STATUS"), (Some(2), Some(1)));
+    assert_eq!(&rt; fault(alloc, "a:\na:")?, (Some(4), Some(2)));
+    assert_eq!(&rt; fault(alloc, "JUMP b\nNOP $")?, (Some(3), Some(1)));
+    assert_eq!(&rt; fault(alloc, "NOP\nNOP $")?, (Some(1), Some(2)));
+    assert_eq!(&rt; fault(alloc, "NOP 5")?, (Some(2), Some(1)));
+    assert_eq!(&rt; fault(alloc, "MOVE 0, x, WHEN STATUS")?, (Some(2), Some(1)));
     assert_eq!(&rt;
-        fault(alloc, "MOVE 0x1000000, 0, WHEN STATUS"),
+        fault(alloc, "MOVE 0x1000000, 0, WHEN STATUS")?,
         (Some(5), Some(1))
     );
-    assert_eq!(&rt; fault(alloc, "JUMP 4294967296"), (Some(5), Some(1)));
-    assert_eq!(&rt; fault(alloc, "JUMP x\nABSOLUTE x = 7"), (None, None));
+    assert_eq!(&rt; fault(alloc, "JUMP 4294967296")?, (Some(5), Some(1)));
+    assert_eq!(&rt; fault(alloc, "JUMP x\nABSOLUTE x = 7")?, (None, None));
     let mut long = String::new(alloc);
     for _ in 0..1024 {
         long.push_str("NOP\n")?;
     }
     assert!(&rt; long.as_str().len() < 10000);
-    assert_eq!(&rt; fault(alloc, long.as_str()), (None, None));
+    assert_eq!(&rt; fault(alloc, long.as_str())?, (None, None));
     long.push_str("; more\nNOP\nNOP $\n")?;
     assert!(&rt; long.as_str().len() < 10000);
-    assert_eq!(&rt; fault(alloc, long.as_str()), (Some(6), Some(1026)));
+    assert_eq!(&rt; fault(alloc, long.as_str())?, (Some(6), Some(1026)));
     Ok(())
 }
 
