@@ -1,23 +1,25 @@
 //! The reader of traces.
 
 use crate::text::filled;
+use std::alloc::AllocError;
 use std::io;
 use std::time::CpuClock;
-use trace_text::read;
+use trace_text::{TraceFault, read};
 
 /// The lines that the text repeats: one of each kind.
 const LINES: &str =
     "b 0 4294967295\nl 7\nc bc6ef35f\nq 7\ns 0\nc 00000000\nd\nf\nw 12\nr\nu 7\ne 7\na 3\nz\nn 255\n";
 
 /// The lines of a trace, where it is one.
-fn count_lines(rt: &HostRuntime, text: &str) -> usize {
+fn count_lines(rt: &HostRuntime, text: &str) -> Result<usize, AllocError> {
     let bytes = text.as_bytes();
     if bytes.len() >= 0xffff_ffff {
-        return 0;
+        return Ok(0);
     }
     match read(rt.alloc(), bytes, 1) {
-        Ok(lines) => lines.as_slice().len(),
-        Err(_) => 0,
+        Ok(lines) => Ok(lines.as_slice().len()),
+        Err(TraceFault::Line(_)) => Ok(0),
+        Err(TraceFault::OutOfMemory) => Err(AllocError),
     }
 }
 
@@ -25,7 +27,7 @@ fn count_lines(rt: &HostRuntime, text: &str) -> usize {
 pub fn trace(rt: &HostRuntime, count: Option<u32>) -> io::Result<()> {
     let Some(times) = count else {
         let text = filled(rt.alloc(), "sym-trace 1\n", LINES, None, 4_096)?;
-        let lines = count_lines(rt, text.as_str());
+        let lines = count_lines(rt, text.as_str())?;
         return println!(rt; "trace: {} bytes, {lines} lines", text.len());
     };
     for len in [16_777_216usize, 33_554_432, 67_108_864] {
@@ -33,7 +35,7 @@ pub fn trace(rt: &HostRuntime, count: Option<u32>) -> io::Result<()> {
         let start = rt.thread_cpu_time()?;
         let mut lines = 0usize;
         for _ in 0..times {
-            lines = count_lines(rt, text.as_str());
+            lines = count_lines(rt, text.as_str())?;
         }
         let time = rt.thread_cpu_time()?.saturating_sub(start).as_millis();
         println!(rt;
