@@ -3,7 +3,7 @@ use Rattle.std.specs.Prelude.{◌≡◌, ◌≢◌, ℕ, nat_lt, if◌then◌els
 use Rattle.scripts_asm.specs.declared.assembling.Image.{Image}
 use Rattle.scripts_asm.specs.declared.assembling.AsmFault.{AsmFault}
 use Rattle.scripts_asm.specs.declared.assembling.AsmFault.TheVariants.{OutOfMemory}
-use Rattle.scripts_asm.specs.Image.{Assembles, number_of, line_of}
+use Rattle.scripts_asm.specs.Image.{Assembles}
 
 -- a byte above 7Fh reads as `?`
 abbrev pub read_as : ℕ → ℕ
@@ -14,6 +14,6 @@ source_text source = map read_as source
 
 -- An image or a first fault, never both, and of each but one.
 pub record OneAssembly : Type 0 where
-  pub images : (text : List ℕ) (i j : Image) → Assembles text (Ok i) → Assembles text (Ok j) → i.words ≡ j.words
+  pub images : (text : List ℕ) (i j : Image) → Assembles text (Ok i) → Assembles text (Ok j) → i ≡ j
   pub apart : (text : List ℕ) (i : Image) (f : AsmFault) → Assembles text (Ok i) → Assembles text (Err f) → f ≡ OutOfMemory
-  pub faults : (text : List ℕ) (f g : AsmFault) → Assembles text (Err f) → Assembles text (Err g) → f ≢ OutOfMemory → g ≢ OutOfMemory → (line_of f ≡ line_of g) × (number_of f ≡ number_of g)
+  pub faults : (text : List ℕ) (f g : AsmFault) → Assembles text (Err f) → Assembles text (Err g) → f ≢ OutOfMemory → g ≢ OutOfMemory → f ≡ g

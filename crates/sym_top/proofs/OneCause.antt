@@ -1,7 +1,7 @@
 -- A command has one cause at most, since its file has one content and its source one answer.
 use Rattle.std.proofs.Common.{◌≡◌, ◌≢◌, ℕ, List, length, Some, None, sym, ap, subst, ◌∙◌, arith}
 use Rattle.scripts_asm.specs.declared.assembling.AsmFault.TheVariants.{OutOfMemory}
-use Rattle.scripts_asm.specs.Image.{line_of}
+use Rattle.scripts_asm.specs.Image.{line_of, number_of}
 use Rattle.source_files.specs.Sources.{source_text}
 use Rattle.source_files.proofs.OneAnswer.{one_assembly}
 use Rattle.sym_io.specs.ByName.{FilesByName, whole_file}
@@ -24,9 +24,9 @@ no_both source name job line fault a h = is_fault source line fault h (one_assem
 
 same_fault : (source : List ℕ) (line line' fault fault' : ℕ) → HasSourceFault source line fault → HasSourceFault source line' fault' → (line ≡ line') × (fault ≡ fault')
 same_fault source line line' fault fault' h k =
-    let both = one_assembly.faults (source_text source) h.cause k.cause h.refused k.refused (is_fault source line fault h) (is_fault source line' fault' k) in
-    let lines : Some line ≡ Some line' = sym h.line_is ∙ both.0 ∙ k.line_is in
-    let faults : Some fault ≡ Some fault' = sym h.fault_is ∙ both.1 ∙ k.fault_is in
+    let same : h.cause ≡ k.cause = one_assembly.faults (source_text source) h.cause k.cause h.refused k.refused (is_fault source line fault h) (is_fault source line' fault' k) in
+    let lines : Some line ≡ Some line' = sym h.line_is ∙ ap line_of same ∙ k.line_is in
+    let faults : Some fault ≡ Some fault' = sym h.fault_is ∙ ap number_of same ∙ k.fault_is in
     (cc, cc)
 
 no_fault : (c : Command) (held : FilesByName) (job : Job) (line fault : ℕ) → Makes c (Some held) job → HasFault c (Some held) line fault → ⊥
