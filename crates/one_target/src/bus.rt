@@ -1,6 +1,6 @@
 //! The bus of the command `one`.
 
-ghost use Rattle.std.specs.Prelude.{◌≡◌, ◌⊎◌, ◌↔◌, IfOk, IsTrue};
+ghost use Rattle.std.specs.Prelude.{◌≡◌, ◌⊎◌, ◌↔◌, IfOk, IsTrue, None};
 ghost use Rattle.target_law.specs.Calls.{link_phase};
 ghost use Rattle.one_target.specs.Bus.{Turns, ComesIn, StaysOut, ack_by, after_ack, is_message, messaged_where};
 ghost use Rattle.one_target.specs.Opening.{IsOpened};
@@ -51,9 +51,10 @@ impl Model for OneBus {
 }
 
 impl OneBus {
-    /// The free bus with the unit at its opening. It takes the memory of the unit's disk and of one task.
+    /// The free bus with the unit at its opening; no phase was asked for. It takes the memory of the unit's disk and of one task.
     pub fn open(alloc: Global) -> Result<OneBus, AllocError>
-        ensures { IfOk result (λ bus. IsOpened bus) }
+        ensures opened { IfOk result (λ bus. IsOpened bus) }
+        ensures unasked { IfOk result (λ bus. bus.asked ≡ None) }
     {
         let mut device = Device::open(alloc, &[UNIT])?;
         device.reserve(0, ROOM)?;

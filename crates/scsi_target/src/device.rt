@@ -1,6 +1,6 @@
 //! The device: its opening, and what can be read of it.
 
-ghost use Rattle.std.specs.Prelude.{◌≡◌, ◌≤◌, ◌<◌, ◌+◌, ℕ, Some, None, true, false, not, length, replicate, vec_len, slice_get, IfOk, IfSome, OnOk, IsTrue, ◌↔◌};
+ghost use Rattle.std.specs.Prelude.{◌≡◌, ◌≤◌, ◌<◌, ◌+◌, ℕ, Some, None, true, false, not, length, replicate, vec_len, slice_get, IfOk, IfSome, OnOk, OnErr, IsTrue, ◌↔◌, max};
 ghost use Rattle.plain_lun.specs.Unit.{blocks_of};
 ghost use Rattle.plain_lun.specs.Performing.{blocks_at};
 ghost use Rattle.target_law.specs.Target.{unit_at};
@@ -61,7 +61,8 @@ impl Device {
         })
     }
 
-    /// Makes room in a unit's log, so that at least `n` more entries fit.
+    /// Makes room in a unit's log, so that `n` more entries fit, and no more than that. An `Err` leaves the device as
+    /// it was; it is want of memory, and never comes where the entries fitted before.
     ///
     /// Condition: the LUN is there.
     pub fn reserve(&mut self, lun: u8, n: u32) -> Result<(), AllocError>
@@ -70,6 +71,9 @@ impl Device {
         ensures spare { OnOk result (IsThere (unit_at self.old.target.units lun) (λ u. length u.log + n ≤ room_at self.new lun)) }
         ensures rooms { (k : ℕ) → room_at self.old k ≤ room_at self.new k }
         ensures others { (k : ℕ) → (k ≡ lun → ⊥) → room_at self.new k ≡ room_at self.old k }
+        ensures exact { OnOk result (IsThere (unit_at self.old.target.units lun) (λ u. room_at self.new lun ≡ max (room_at self.old lun) (length u.log + n))) }
+        ensures err { OnErr result (self.new ≡ self.old) }
+        ensures full { OnErr result (IsThere (unit_at self.old.target.units lun) (λ u. room_at self.old lun < length u.log + n)) }
     {
         match &mut self.units[lun as usize] {
             Some(unit) => unit.core.log.reserve(n),
@@ -127,8 +131,8 @@ impl Device {
         }
     }
 
-    /// Whether a task of the named nexus may begin: the unit has a task of that tag, or fewer tasks than its depth.
-    /// It is true where no nexus is named.
+    /// Whether `begin_task` may be called with a ticket: the named unit has a task of that tag, so that none begins, or
+    /// fewer tasks than its depth. It is true where no nexus is named.
     pub fn has_place(&self) -> bool
         ensures { IsTrue result ↔ HasPlace self.now }
     {

@@ -1,5 +1,5 @@
 -- A target with its one unit, of LUN 3: what the calls of the device want.
-use Rattle.std.proofs.Common.{◌≡◌, ℕ, zero, suc, ◌||◌, Bool, true, false, List, [], ◌∷◌, refl, ap, sym, ◌∙◌, subst, inl, inr, Option, Some, None, slice_get}
+use Rattle.std.proofs.Common.{◌≡◌, ℕ, zero, suc, ◌+◌, ◌||◌, Bool, true, false, List, [], ◌∷◌, refl, ap, sym, ◌∙◌, subst, inl, inr, Option, Some, None, slice_get, max, length}
 use Rattle.std.specs.Prelude.{◌<◌, ◌≤◌, ◌↔◌, ◌&&◌, not, nat_lt, if◌then◌else◌, is_some, IsTrue}
 use Rattle.std.proofs.Common.{arith}
 use Rattle.std.proofs.lemmas.Bool.Decides.{nat_tests}
@@ -15,9 +15,9 @@ use Rattle.target_law.specs.declared.stray.Stray.TheVariants as stray
 use Rattle.target_law.specs.declared.nexus.Nexus.{Nexus}
 use Rattle.target_law.specs.Bytes.{Connection, phase_of, byte_by, sent_by}
 use Rattle.target_law.specs.Strays.{stray_phase, stray_byte, stray_sent}
-use Rattle.target_law.specs.Target.{LogicalUnit, Link, Free, Greeted, Commanded, Working, Straying, Target, unit_at, with_unit, target_opened}
+use Rattle.target_law.specs.Target.{LogicalUnit, unit_opened, Link, Free, Greeted, Commanded, Working, Straying, Target, unit_at, with_unit, target_opened}
 use Rattle.target_law.specs.Calls.{is_free, link_phase, link_byte, sent_if, candidates, slot_is_rogue, is_rogue, IsToChoose, WaitsForAck}
-use Rattle.scsi_target.specs.Devices.{DeviceState, lie_within, where_room}
+use Rattle.scsi_target.specs.Devices.{DeviceState, device_opened, lie_within, where_room, room_at}
 use Rattle.target_rows.proofs.Rigs.{Same}
 use Rattle.target_law.specs.Lawful.{IsThere}
 use Rattle.target_rows.specs.Rigs.{rigs, alone, IsPresent, IsHeld}
@@ -261,3 +261,18 @@ pub asks-so : (i d : DeviceState) (r : RigUnit) (is : Bool) → IsHeld i.target.
 asks-so i d r is h e f g k =
     let a : is_rogue d.target ≡ false = subst (λ (x : DeviceState). is_rogue x.target ≡ false) e (rogue-is i.target r h ∙ f) in
     (λ t. (a, k (subst (λ (x : Bool). IsTrue x) (sym g) t)), λ b. refl)
+
+-- the room that the unit's log is given at the opening
+opened-unit : (r : RigUnit) → r.lun ≡ 3 → unit_at (target_opened (r ∷ [])).units 3 ≡ Some (unit_opened r)
+unfolding target_opened with_unit unit_at
+opened-unit r e = rw e refl
+
+none-before : (n : ℕ) → max 0 (0 + n) ≡ n
+none-before n = omega arith
+
+pub opened-room : (r : RigUnit) (room : ℕ) (d d' : DeviceState) → r.lun ≡ 3 → d ≡ device_opened (r ∷ []) → IsThere (unit_at d.target.units r.lun) (λ u. room_at d' r.lun ≡ max (room_at d r.lun) (length u.log + room)) → room_at d' 3 ≡ room
+opened-room r room d d' lun o m =
+    let at-lun = subst (λ n. IsThere (unit_at d.target.units n) (λ u. room_at d' n ≡ max (room_at d n) (length u.log + room))) lun m in
+    let at-opening = subst (λ (x : DeviceState). IsThere (unit_at x.target.units 3) (λ u. room_at d' 3 ≡ max (room_at x 3) (length u.log + room))) o at-lun in
+    let given : room_at d' 3 ≡ max 0 (0 + room) = subst (λ o. IsThere o (λ u. room_at d' 3 ≡ max 0 (length u.log + room))) (opened-unit r lun) at-opening in
+    given ∙ none-before room

@@ -6,7 +6,7 @@ ghost use Rattle.target_law.specs.declared.moves.Move.{Move};
 ghost use Rattle.target_law.specs.Target.{unit_at, target_opened, linked, target_reset};
 ghost use Rattle.target_law.specs.Calls.{is_free, link_phase, nexus_of, candidates, IsToChoose, is_rogue, target_selected, target_reselected, asked_by, target_messaged, target_acked, link_byte, link_takes, took_if, whole_by, target_begun};
 ghost use Rattle.target_law.specs.Lawful.{IsThere, Named};
-ghost use Rattle.scsi_target.specs.Devices.{HasPlace, where_room};
+ghost use Rattle.scsi_target.specs.Devices.{HasPlace, where_room, room_at};
 ghost use Rattle.target_rows.specs.Calls.{after_byte, is_message_in, message_byte, ActsBy};
 ghost use Rattle.target_rows.specs.Rigs.{IsPresent};
 
@@ -43,7 +43,8 @@ impl Initiator {
     /// Condition: the unit is in range, has LUN 3, and isn't absent.
     pub fn open(alloc: Global, unit: &Unit, room: u32) -> Result<Initiator, AllocError>
         requires { IsPresent unit.now }
-        ensures { IfOk result (λ i. i.target ≡ target_opened (unit.now ∷ [])) }
+        ensures target { IfOk result (λ i. i.target ≡ target_opened (unit.now ∷ [])) }
+        ensures room { IfOk result (λ i. room_at i 3 ≡ room) }
     {
         let mut device = Device::open(alloc, &[*unit])?;
         device.reserve(unit.lun, room)?;

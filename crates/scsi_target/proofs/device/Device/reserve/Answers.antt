@@ -1,12 +1,13 @@
-use Rattle.std.proofs.Common.{◌≡◌, ◌≤◌, ◌+◌, Some, subst, ap, ◌∙◌, refl, arith, length, OnOk, Result, Ok, Err, List, Option, map, slice_set, slice_index_or}
+use Rattle.std.proofs.Common.{◌≡◌, ◌≤◌, ◌<◌, ◌+◌, ℕ, max, Some, subst, sym, ap, ◌∙◌, refl, arith, length, OnOk, OnErr, Result, Ok, Err, List, Option, map, slice_set, slice_index_or}
 use Rattle.std.specs.Prelude.{slice_get}
 use Rattle.target_law.specs.Lawful.{IsThere}
 use Rattle.target_law.specs.Target.{LogicalUnit, unit_at}
 use Rattle.unit_tasks.specs.declared.queued.QueuedUnit.{QueuedUnit}
-use Rattle.scsi_target.specs.Slots.{room_of}
-use Rattle.scsi_target.specs.Views.{IsSlot, link_of}
+use Rattle.unit_log.specs.Journal.{Journal}
+use Rattle.scsi_target.specs.Slots.{room_of, slot_of}
+use Rattle.scsi_target.specs.Views.{IsSlot, device_of, link_of}
 use Rattle.scsi_target.specs.Devices.{DeviceState}
-use Rattle.scsi_target.proofs.Places.{room_set, room_other, room_more, there_in, back_in, read_unit, not_none, in_range, within, units_stay}
+use Rattle.scsi_target.proofs.Places.{room_set, room_other, room_more, room_there, there_in, back_in, read_unit, not_none, in_range, within, units_stay, rooms_stay}
 use Rattle.scsi_target.proofs.Devices.{device_set, linked_by, connected_log}
 use Rattle.scsi_target.proofs.device.Device.reserve.Goals as goal
 
@@ -61,3 +62,41 @@ returns-clause-rooms c = λ k. subst (λ (d : DeviceState). slice_index_or d.roo
 
 pub returns-clause-others : goal.returns-clause-others
 returns-clause-others c = λ k d. room_other c.self.inside.units.items c.args.lun k (after c) d ∙ ap (λ (x : DeviceState). slice_index_or x.rooms k 0) c.self.view_is
+
+-- the room of the unit's log before
+old_room : (c : goal.After-self-1) → c.in-Some.unit.core.log.room ≡ slice_index_or c.args.self.now.rooms c.args.lun 0
+old_room c = sym (room_there c.self.inside.units.items c.args.lun c.in-Some.unit (place c)) ∙ ap (λ (d : DeviceState). slice_index_or d.rooms c.args.lun 0) c.self.view_is
+
+exact_at : (c : goal.After-self-1) → c.reserve.new.self.room ≡ max c.in-Some.unit.core.log.room (length c.in-Some.unit.core.log.entries + c.args.n)
+    → slice_index_or (map room_of (slice_set c.self.inside.units.items c.args.lun (Some (after c)))) c.args.lun 0 ≡ max (slice_index_or c.args.self.now.rooms c.args.lun 0) (length c.in-Some.unit.core.log.entries + c.args.n)
+exact_at c h =
+    room_set c.self.inside.units.items c.args.lun (after c) (within _ c.args.lun c.in-Some.unit (place c)) ∙ h ∙ ap (λ room. max room (length c.in-Some.unit.core.log.entries + c.args.n)) (old_room c)
+
+exact_back : (c : goal.After-self-1) → c.reserve.new.self.room ≡ max c.in-Some.unit.core.log.room (length c.in-Some.unit.core.log.entries + c.args.n)
+    → IsThere (unit_at c.args.self.now.target.units c.args.lun) (λ u. slice_index_or (map room_of (slice_set c.self.inside.units.items c.args.lun (Some (after c)))) c.args.lun 0 ≡ max (slice_index_or c.args.self.now.rooms c.args.lun 0) (length u.log + c.args.n))
+exact_back c h = back_in _ _ _ c.self.view_is c.args.lun (λ (u : LogicalUnit). slice_index_or (map room_of (slice_set c.self.inside.units.items c.args.lun (Some (after c)))) c.args.lun 0 ≡ max (slice_index_or c.args.self.now.rooms c.args.lun 0) (length u.log + c.args.n)) c.in-Some.unit (place c) (exact_at c h)
+
+pub returns-clause-exact : goal.returns-clause-exact
+returns-clause-exact c = on_ok c.reserve.result (exact_back c) c.reserve.ensures.exact
+
+on_err : {T E P Q : Type 0} (r : Result T E) → (P → Q) → OnErr r P → OnErr r Q
+on_err (Ok v) f h = tt
+on_err (Err e) f h = f h
+
+same_device : (c : goal.After-self-1) → c.reserve.new.self ≡ c.in-Some.unit.core.log → device_of (slice_set c.self.inside.units.items c.args.lun (Some (after c))) c.self.inside.link ≡ c.args.self.now
+same_device c h =
+    let same : after c ≡ c.in-Some.unit = ap (λ (log : Journal). record { rig = c.in-Some.unit.rig; core = record { lun = c.in-Some.unit.core.lun; log = log }; tasks = c.in-Some.unit.tasks }) h in
+    ap (λ (q : QueuedUnit). device_of (slice_set c.self.inside.units.items c.args.lun (Some q)) c.self.inside.link) same
+    ∙ ap (λ (us : List (Option LogicalUnit)). record { target = record { units = us; link = link_of c.self.inside.link }; rooms = map room_of (slice_set c.self.inside.units.items c.args.lun (Some c.in-Some.unit)) }) (units_stay _ c.args.lun c.in-Some.unit c.in-Some.unit (place c) refl)
+    ∙ ap (λ (rs : List ℕ). record { target = record { units = map slot_of c.self.inside.units.items; link = link_of c.self.inside.link }; rooms = rs }) (rooms_stay _ c.args.lun c.in-Some.unit c.in-Some.unit (place c) refl)
+    ∙ c.self.view_is
+
+pub returns-clause-err : goal.returns-clause-err
+returns-clause-err c = on_err c.reserve.result (same_device c) c.reserve.ensures.err
+
+full_back : (c : goal.After-self-1) → c.in-Some.unit.core.log.room < length c.in-Some.unit.core.log.entries + c.args.n
+    → IsThere (unit_at c.args.self.now.target.units c.args.lun) (λ u. slice_index_or c.args.self.now.rooms c.args.lun 0 < length u.log + c.args.n)
+full_back c h = back_in _ _ _ c.self.view_is c.args.lun (λ (u : LogicalUnit). slice_index_or c.args.self.now.rooms c.args.lun 0 < length u.log + c.args.n) c.in-Some.unit (place c) (subst (λ room. room < length c.in-Some.unit.core.log.entries + c.args.n) (old_room c) h)
+
+pub returns-clause-full : goal.returns-clause-full
+returns-clause-full c = on_err c.reserve.result (full_back c) c.reserve.ensures.full
