@@ -1,8 +1,11 @@
 //! How the program ends.
 ghost use Rattle.std.specs.Prelude.{◌≡◌};
+ghost use Rattle.std.specs.Process.{exit_status};
 ghost use Rattle.sym_top.specs.Exits.{number_of};
 
-/// How a command ended. Its number is the status of the process.
+use std::process::ExitCode;
+
+/// How a command ended. Its number is the status of the process. No command ends with 6, 7, 9 or 10 yet.
 #[derive(Clone, Copy, Debug, PartialEq, Eq)]
 pub enum Exit {
     /// 0: the work was done and all was written.
@@ -31,9 +34,9 @@ pub enum Exit {
 
 impl Exit {
     /// The status of the process, 0 to 11.
-    pub fn number(self) -> u8
-        ensures { result ≡ number_of self }
+    pub fn status(self) -> ExitCode
+        ensures { exit_status result ≡ number_of self }
     {
-        self as u8
+        ExitCode::from(self as u8)
     }
 }

@@ -10,8 +10,10 @@ mod making;
 mod numbers;
 mod one;
 mod refusal;
+mod words;
 
 pub use answer::answer_alone;
 pub use exit::Exit;
 pub use laws::{exact_status, faults_show, one_cause};
 pub use straight_run::{Straight, straight};
+pub use words::{refuse_words, words_of};

@@ -2,10 +2,10 @@
 
 ghost use Rattle.std.specs.Prelude.{◌<◌};
 
-use scsi_words::{Counts, Text};
+use scsi_words::Counts;
 use std::alloc::{AllocError, Global};
 use sym_io::{Files, MemorySink, QuietShelf, Shelf};
-use sym_top::{Exit, answer_alone};
+use sym_top::{Exit, answer_alone, words_of};
 
 /// How a sink behaves: the most bytes of one write, and the calls, counted from 1, that fail.
 #[derive(Clone, Copy)]
@@ -45,13 +45,15 @@ pub fn run_over<F: Shelf>(
     out: Sinking,
     err: Sinking,
 ) -> Result<Left, AllocError> {
-    let mut texts = Vec::new(alloc);
+    let mut args = Vec::new(alloc);
+    args.push(String::from_str(alloc, "symbench")?)?;
     for word in words {
-        texts.push(Text::of(String::from_str(alloc, word)?))?;
+        args.push(String::from_str(alloc, word)?)?;
     }
+    let words = words_of(alloc, args.into_iter())?;
     let mut out = sink(alloc, out)?;
     let mut err = sink(alloc, err)?;
-    let exit = answer_alone(alloc, texts.as_slice(), shelf, &mut out, &mut err);
+    let exit = answer_alone(alloc, words.as_slice(), shelf, &mut out, &mut err);
     Ok(Left { exit, out, err })
 }
 
