@@ -233,8 +233,8 @@ impl Regs {
         byte
     }
 
-    /// Writes the byte at a place of the table. All other bytes stay. A bit without a name isn't kept, and CTEST2
-    /// isn't written.
+    /// Writes the byte at a place of the table. Every other byte stays, but that CTEST2 shows the SIGP that a write of
+    /// ISTAT leaves. A bit without a name isn't kept, and CTEST2 isn't written.
     #[tactic(auto, unfolding(crate::specs::Registers::written))]
     pub fn write(&mut self, place: u8, b: u8)
         requires { IsTrue (is_place place) }

@@ -34,12 +34,12 @@ pub trait Bus {
     fn shown(&self) -> Option<Phase>
         ensures { moves self.now (Shown result) self.now };
 
-    /// The next byte from the target, and `None` exactly where the phase's bytes are used up, which changes nothing.
+    /// The next byte from the target. With `None` it gives none in this phase any more, and nothing changes.
     /// In MSG_IN a byte asserts ACK.
     fn byte_in(&mut self) -> Option<u8>
         ensures { moves self.old (ByteIn result) self.new };
 
-    /// Hands a byte to the target, and is false exactly where the phase's bytes are used up, which changes nothing.
+    /// Hands a byte to the target. With false it takes none in this phase any more, and nothing changes.
     fn byte_out(&mut self, b: u8) -> bool
         ensures { moves self.old (ByteOut b result) self.new };
 

@@ -11,7 +11,7 @@ use bench_words::Words;
 /// A word of a command block. A segment's number `j` is below 16, a context's below 2.
 #[derive(Clone, Copy, Debug, PartialEq, Eq)]
 pub enum Field {
-    /// Where the script goes on when the command is taken from a ring: SELECT, CANCEL or SENSE.
+    /// Where the script goes on when the block is taken from FRONT or the start ring: SELECT, CANCEL or SENSE.
     Start,
     /// Where the script goes on at a reselection, by OPEN: RESTORE or ABORT.
     Restart,

@@ -1,5 +1,5 @@
 //! Several callers over one machine, each in a thread of its own where one can be made. It shows that the lock serves
-//! real threads: the product's own callers stand in other crates.
+//! real threads; nothing stands on it.
 #![tactic(auto)]
 
 ghost use Rattle.std.specs.Prelude.{◌≡◌, ℕ, ◌+◌, ◌≤◌, ◌<◌, ◌⊎◌, true, IfOk, Some};

@@ -25,8 +25,8 @@ pub fn report_fits_the_log()
     ensures { Reported }
 {}
 
-/// Each move of the bus of `one` keeps what holds of it between its calls: its one unit stays alone, is always the
-/// one that is connected, and ACK is asserted only while a message byte waits for it.
+/// Each move of the bus of `one` keeps what holds of it between its calls: its one unit stays alone, no other is ever
+/// connected, the log lies within its room, and ACK is asserted only while a message byte waits for it.
 pub fn bus_stays_held()
     ensures { (old : BusState) → (event : Event) → (new : BusState) → moves old event new → IsHeld old → IsHeld new }
 {}

@@ -1,6 +1,6 @@
-//! A bus with one target, whose units keep the rules, and the command `one` on it. These are definitions in `specs/`
-//! and laws: each move keeps the laws of a bus, a READ(10) from the opening has one answer to each call, and the
-//! report that host memory then holds fits the unit's log.
+//! A bus with one target, whose units keep the rules, for the command `one`: `OneBus`, and laws. Each move keeps the
+//! laws of a bus, a READ(10) from the opening has one answer to each call, and the report that host memory then holds
+//! fits the unit's log.
 #![tactic(auto)]
 
 mod bus;

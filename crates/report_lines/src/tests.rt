@@ -1,4 +1,4 @@
-//! Whole texts of reports.
+//! Texts of reports: of two reads the length and both ends, of the others the whole.
 
 use super::*;
 

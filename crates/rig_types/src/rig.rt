@@ -30,7 +30,7 @@ pub struct Unit {
     pub depth: u16,
     /// How often one of its tasks may leave the bus or move its data pointer, 0 to 8.
     pub disconnects: u8,
-    /// How many commands of one ticket it may refuse by BUSY or QUEUE FULL, 0 to 8.
+    /// How often it may refuse one ticket by BUSY or QUEUE FULL, 0 to 8.
     pub refusals: u8,
     /// No target answers.
     pub absent: bool,

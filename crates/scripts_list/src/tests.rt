@@ -6,7 +6,7 @@ use scripts_asm::{AsmFault, assemble};
 use std::alloc::{AllocError, Global};
 use std::test::Fail;
 
-/// One instruction of each form and condition, and a comment.
+/// Instructions of all forms but MOVE MEMORY, MOVE value TO register, CALL and NOP, and a comment.
 const FORMS: &str = "start: MOVE CTEST2 | 0x00 TO SFBR
 LOAD DSA, 4, 0x1000
 LOAD TEMP, 4, FROM 0x00

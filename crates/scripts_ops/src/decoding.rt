@@ -29,7 +29,7 @@ fn spells(op: &Op, first: u32, second: u32, third: u32) -> bool
 #[tactic(auto, using(crate::proofs::OneRow::guess_of_spelled))]
 pub fn decode(w0: u32, w1: u32, w2: u32) -> Option<Op>
     ensures found { IfSome result (Spelled w0 w1 w2) }
-    // each instruction has one spelling, and the words that `encode` gives lead back to it
+    // no words spell two instructions, and the words that `encode` gives lead back to theirs
     ensures only { (op : Op) → Spelled w0 w1 w2 op → result ≡ Some op }
     ensures none { IsNone result → (op : Op) → Spelled w0 w1 w2 op → ⊥ }
 {

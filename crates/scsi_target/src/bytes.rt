@@ -1,4 +1,4 @@
-//! Bytes, and the beginning of a task.
+//! Bytes, and whether a command is whole.
 
 ghost use Rattle.std.specs.Prelude.{◌≡◌, not};
 ghost use Rattle.target_law.specs.Target.{linked};

@@ -24,9 +24,10 @@ use unit_tasks::QueuedUnit;
 
 impl Device {
     /// ATN is released while MSG_OUT is shown: the message is whole, and acts. After a selection IDENTIFY with the
-    /// disconnect privilege, SIMPLE QUEUE TAG and a tag lead to COMMAND. BUS DEVICE RESET resets the target, and ABORT TAG
-    /// after a reselection drops the task. Any other message frees the bus. Where a log has no room for the entries of
-    /// that, nothing changes.
+    /// disconnect privilege, SIMPLE QUEUE TAG and a tag lead to COMMAND where the unit is there. BUS DEVICE RESET resets
+    /// the target, and ABORT TAG after a reselection drops the task. Any other message frees the bus. Units that break the
+    /// rules ignore the message, and the target is to choose again. Where a log has no room for the entries of that,
+    /// nothing changes.
     ///
     /// Condition: MSG_OUT is shown.
     pub fn end_message(&mut self)

@@ -1,7 +1,7 @@
 #![tactic(auto)]
-//! The words of SCSI-2 (ANSI X3.131-1994) that every layer speaks, as types: phases of the bus, messages of one
-//! byte, status bytes and directions of data, each with its reader and its writer; and lists of bytes and
-//! numbers and a text, which contracts see as lists.
+//! The words of SCSI-2 (ANSI X3.131-1994) that every layer speaks, as types: phases of the bus, messages of one byte
+//! and status bytes, each with its reader and its writer; directions of data; and lists of bytes and numbers and a
+//! text, which contracts see as lists.
 //!
 //! No call here takes memory.
 

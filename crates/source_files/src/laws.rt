@@ -2,7 +2,7 @@
 ghost use Rattle.source_files.specs.Images.{ReadsBack};
 ghost use Rattle.source_files.specs.Sources.{OneAssembly};
 
-/// A source has one answer: its image or its first fault, never both, and of each but one.
+/// A source has at most one image and at most one first fault, and never both.
 pub fn one_assembly()
     ensures { OneAssembly }
 {}

@@ -1,7 +1,7 @@
 -- Counts of faults, and when an answer may blame one.
 use Rattle.std.specs.Prelude.{ℕ, ◌+◌, ◌-◌, ◌^◌, ◌≤◌, min}
 
--- A count of calls or faults goes up by one, and stands still at the end of its 64 bits.
+-- A count of faults goes up by one, and stands still at the end of its 64 bits.
 abbrev pub count_up : ℕ → ℕ
 count_up n = min (n + 1) (2 ^ 64 - 1)
 

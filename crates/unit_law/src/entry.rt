@@ -11,7 +11,7 @@ pub enum LogEntry {
     Look(u32),
     /// The command ended: it was performed now, or its status is the one kept from Look.
     End(u32),
-    /// The command's task was dropped when its position was at most this number of bytes.
+    /// The command's task was dropped; the second number is the greatest position that its data had reached, in bytes.
     Drop(u32, u32),
     /// A reset: the unit's sense was removed and its attention set.
     Clear,
