@@ -5,6 +5,8 @@
 mod commands;
 mod initiator;
 #[cfg(test)]
+mod openings;
+#[cfg(test)]
 mod resets;
 #[cfg(test)]
 mod rogue;
