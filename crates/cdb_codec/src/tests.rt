@@ -71,6 +71,8 @@ fn writes_each_command(rt: HostRuntime) -> Result<(), Fail> {
     assert!(rt; is_written(alloc, &read(0x1_0203, 4, true), &short)?);
     let long = [0x28, 0, 0, 0, 0, 3, 0, 0, 1, 0];
     assert!(rt; is_written(alloc, &read(3, 1, false), &long)?);
+    let none = [0x28, 0, 0, 0, 0, 63, 0, 0, 0, 0];
+    assert!(rt; is_written(alloc, &read(63, 0, false), &none)?);
     let short = [0x0A, 0x1F, 0xFF, 0xFF, 0, 0];
     assert!(rt; is_written(alloc, &write(0x1F_FFFF, 256, true), &short)?);
     let long = [0x2A, 0, 1, 2, 3, 4, 0, 5, 6, 0];

@@ -6,6 +6,7 @@ ghost use Rattle.trace_text.specs.Grammar.{line_of};
 use super::*;
 use rig_types::{Entry, Line, Step};
 use std::alloc::Global;
+use std::test::Fail;
 
 /// Writes entries and reads the text. That the lines are those of the entries follows from the clauses of both calls.
 fn written_and_read(alloc: Global, entries: &[Entry], version: u8) -> Option<TraceLines>
@@ -124,4 +125,25 @@ fn the_first_line_outside_the_grammar(rt: HostRuntime) {
             "{text:?}"
         );
     }
+}
+
+#[test]
+fn a_long_trace(rt: HostRuntime) -> Result<(), Fail> {
+    let alloc = rt.alloc();
+    let mut entries = Vec::new(alloc);
+    for ticket in 0..100_000u32 {
+        entries.push(Entry {
+            caller: 17,
+            step: Step::Free(ticket),
+        })?;
+    }
+    let lines = written_and_read(alloc, entries.as_slice(), 2).expect(&rt, "a trace");
+    assert_eq!(rt; lines.as_slice().len(), 100_000);
+    // a line more, without its line feed
+    let mut text = write(alloc, entries.as_slice(), 2)?.into_vec();
+    text.push(b'f')?;
+    assert!(rt; text.len() < 4_294_967_295);
+    let fault = read(alloc, text.as_slice(), 2).err();
+    assert!(rt; fault == Some(TraceFault::Line(100_002)));
+    Ok(())
 }
