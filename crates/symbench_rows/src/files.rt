@@ -167,6 +167,19 @@ fn files_are_read_and_stored_or_refused(rt: HostRuntime) -> Result<(), Fail> {
     Ok(())
 }
 
+#[test]
+fn a_source_of_too_many_instructions(rt: HostRuntime) -> Result<(), Fail> {
+    let alloc = rt.alloc();
+    let mut source = String::new(alloc);
+    for _ in 0..1025 {
+        source.push_str("NOP\n")?;
+    }
+    let said = b"bad source line 1025 fault 6\n";
+    let row = refused(ASM, source.as_bytes(), &[], Exit::BadSource, said);
+    check(&rt, alloc, &row)?;
+    Ok(())
+}
+
 /// An output that takes one byte a write gets the whole text; where its k-th write fails it has the text before that,
 /// and the image is stored.
 fn writes_of_one_byte(rt: &impl Abort, alloc: Global) -> Result<(), AllocError> {
