@@ -45,13 +45,13 @@ Begins-added es true e = (e ∷ [], refl)
 Begins-added es false e = ([], sym (append-nil es))
 
 module _ {O T : Type 0} where
-  pub Follows-stepped : {Y : Type 0} → (allows : O → List (Entry T) → ℕ → T → Y → Type 0) (records : O → Y → Bool) (o : O) (u v w : View O T) (x : T) (reply : Y) (front : ℕ)
+  pub Follows-stepped : {Y : Type 0} → (allows : O → List (Entry T) → ℕ → T → Y → Type 0) (records : O → T → Y → Bool) (o : O) (u v w : View O T) (x : T) (reply : Y) (front : ℕ)
       → Follows u v → Stepped allows records o v w x reply front → Follows u w
   Follows-stepped allows records o u v w x reply front f s = record {
     opening = ap (λ (z : View O T). z.opening) s.else_same ∙ f.opening;
     callers = ap (λ (z : View O T). z.callers) s.else_same ∙ f.callers;
     caller = ap (λ (z : View O T). z.caller) s.else_same ∙ f.caller;
-    seen = subst (λ (es : List (Entry T)). Begins u.seen es) (sym s.seen_is) (Begins-on u.seen s.before _ (Begins-on u.seen v.seen s.before f.seen s.begins) (Begins-added s.before _ _));
+    seen = subst (λ (es : List (Entry T)). Begins u.seen es) (sym s.seen_is) (Begins-on u.seen s.before _ (Begins-on u.seen v.seen s.before f.seen (s.others.0, s.others.1)) (Begins-added s.before _ _));
     owns = λ y h. subst (λ (z : View O T). Owns z y) (sym s.else_same) (f.owns y h);
   }
 

@@ -16,8 +16,9 @@ use Rattle.bench_lock.specs.declared.view.View.{View}
 use Rattle.bench_lock.specs.Log.{entries_of, Begins, has, entry, added}
 use Rattle.bench_lock.specs.Rule.{ticket_count, spare_count}
 use Rattle.bench_lock.proofs.Seatwise.{SeatOk, Homed, Kept}
-use Rattle.bench_lock.specs.Views.{Rests, with_ticket, with_turn, with_list, without_ticket, left_view, right_view, merged_view, spent_view, longer, shorter, compared_view, first_view, Compares, Draws, Takes, Looks, Counts, Passes}
+use Rattle.bench_lock.specs.Views.{IsOwn, Rests, with_ticket, with_turn, with_list, without_ticket, left_view, right_view, merged_view, spent_view, longer, shorter, compared_view, first_view, Compares, Knows, Draws, Takes, Looks, Counts, Passes}
 use Rattle.bench_lock.specs.Stepped.{Stepped}
+use Rattle.bench_lock.proofs.Own.{own_to, others_since, own_longer, none_before}
 use Rattle.bench_lock.proofs.Numbers.{draw_mod, pass_mod, first_place, dec_zero, total_set, total_le, inside, one_view, seats_set, prefix_of, total-append, at_end, true_false, has-append, has_one, has_without, without_less, not_retired, not_retired', or_cases, has_below, length-numbers_from, drop_all}
 
 module _ {M O T : Type 0} (opening : M → O) (list : M → List (Entry T)) (o : O) (base callers : ℕ) where
@@ -91,6 +92,7 @@ module _ {M O T : Type 0} (opening : M → O) (list : M → List (Entry T)) (o :
               spare = me.spare;
               retired = me.retired;
               apart = me.apart;
+              known = me.known;
             })
             (λ j u ne there. let ok = r.seats j u there in record {
               place = λ on. let p = ok.place on in (p.0, (let lt = p.1 in omega arith), queued_before r.out r.holder id p.0 p.1 ∙ p.2, p.3);
@@ -103,6 +105,7 @@ module _ {M O T : Type 0} (opening : M → O) (list : M → List (Entry T)) (o :
               spare = ok.spare;
               retired = ok.retired;
               apart = ok.apart;
+              known = ok.known;
             });
       } in
       shaped id v 0 (λ n. (n + 1) % 2 ^ 64) (Draws (step slots 0 1 0 none) v) s.views s.words (r.next ∷ r.serving ∷ length r.log ∷ []) s.homes (r.home ∷ []) r.words r.homes
@@ -151,15 +154,11 @@ module _ {M O T : Type 0} (opening : M → O) (list : M → List (Entry T)) (o :
       let q : theirs.0 ≡ 0 = first_place r.serving theirs.0 r.numbered.1 (let lt = theirs.1 in omega arith) (sym (b.turn turn).1 ∙ theirs.3) in
       sym theirs.2 ∙ (ap r.holder (q ∙ sym p) ∙ mine.2)
 
-  at_least : {a b c d : ℕ} → a ≡ b → c ≡ d → a ≤ c → b ≤ d
-  at_least p q le = omega arith
-
-  looks_on : (slots id : ℕ) (v : Sat) → v.0.has_ticket ≡ true → v.0.turn ≡ false → (s : St) → (r : K s) → get_elem? s.views id ≡ some v.0
-      → (b : Bool) → (eqb r.serving v.0.ticket) ≡ b
-      → Goal id v 1 (λ n. n) (Looks opening list (step slots 1 0 0 none) v) s.views (r.next ∷ r.serving ∷ length r.log ∷ []) (r.home ∷ [])
-  looks_on slots id v on off s r at false is =
-      let same : set s.views id v.0 ≡ s.views = set_again s.views id v.0 at in
-      let new : K record { words = r.next ∷ r.serving ∷ length r.log ∷ []; homes = r.home ∷ []; views = set s.views id v.0 } = subst (λ (vs : List V). K record { words = r.next ∷ r.serving ∷ length r.log ∷ []; homes = r.home ∷ []; views = vs }) (sym same) record {
+  -- the rule where the seat only reads a word
+  unchanged : (s : St) (r : K s) (id : ℕ) (v : V) → get_elem? s.views id ≡ some v → K record { words = r.next ∷ r.serving ∷ length r.log ∷ []; homes = r.home ∷ []; views = set s.views id v }
+  unchanged s r id v at =
+      let same : set s.views id v ≡ s.views = set_again s.views id v at in
+      subst (λ (vs : List V). K record { words = r.next ∷ r.serving ∷ length r.log ∷ []; homes = r.home ∷ []; views = vs }) (sym same) record {
         next = r.next;
         serving = r.serving;
         log = r.log;
@@ -174,8 +173,13 @@ module _ {M O T : Type 0} (opening : M → O) (list : M → List (Entry T)) (o :
         begun = r.begun;
         homed = r.homed;
         seats = r.seats;
-      } in
-      (v.0, keeps, tt, new, rw is refl)
+      }
+
+  looks_on : (slots id : ℕ) (v : Sat) → v.0.has_ticket ≡ true → v.0.turn ≡ false → (s : St) → (r : K s) → get_elem? s.views id ≡ some v.0
+      → (b : Bool) → (eqb r.serving v.0.ticket) ≡ b
+      → Goal id v 1 (λ n. n) (Looks opening list (step slots 1 0 0 none) v) s.views (r.next ∷ r.serving ∷ length r.log ∷ []) (r.home ∷ [])
+  looks_on slots id v on off s r at false is =
+      (v.0, keeps, tt, unchanged s r id v.0 at, rw is refl)
   looks_on slots id v on off s r at true is =
       let served_now : r.serving ≡ v.0.ticket = eqb-true r.serving v.0.ticket is in
       let t = taken s r id v.0 at on off served_now r.home refl r.homed in
@@ -184,6 +188,7 @@ module _ {M O T : Type 0} (opening : M → O) (list : M → List (Entry T)) (o :
       let me = r.seats id v.0 at in
       let live : v.0.live ≡ true = me.live on in
       let w : V = with_turn (list y) v.0 in
+      let own : IsOwn v.0 (list y) = subst (λ (es : List (Entry T)). IsOwn v.0 es) (sym t.3) (own_to v.0 base r.log (me.fixed live).1 r.begun (me.caller live).2) in
       let new : K record { words = r.next ∷ r.serving ∷ length r.log ∷ []; homes = none ∷ []; views = set s.views id w } = record {
         next = r.next;
         serving = r.serving;
@@ -203,8 +208,8 @@ module _ {M O T : Type 0} (opening : M → O) (list : M → List (Entry T)) (o :
         begun = r.begun;
         homed = (id, w, set_here s.views id w (inside s.views id v.0 at), refl);
         seats = seats_set (SeatOk {M = M} none r.serving r.out r.log o base callers r.holder r.owner) s.views id w
-            (record { place = me.place; live = me.live; turn = λ _. (on, sym served_now, t.3, refl); seen = ([], sym t.3 ∙ sym (append-nil (list y))); told = me.told; fixed = me.fixed; caller = me.caller; spare = me.spare; retired = me.retired; apart = me.apart })
-            (λ j u ne there. let ok = r.seats j u there in record { place = ok.place; live = ok.live; turn = λ turn. absurd (some-ne-none y (sym here ∙ (ok.turn turn).3)); seen = ok.seen; told = ok.told; fixed = ok.fixed; caller = ok.caller; spare = ok.spare; retired = ok.retired; apart = ok.apart });
+            (record { place = me.place; live = me.live; turn = λ _. (on, sym served_now, t.3, refl); seen = ([], sym t.3 ∙ sym (append-nil (list y))); told = me.told; fixed = me.fixed; caller = me.caller; spare = me.spare; retired = me.retired; apart = me.apart; known = λ _. own })
+            (λ j u ne there. let ok = r.seats j u there in record { place = ok.place; live = ok.live; turn = λ turn. absurd (some-ne-none y (sym here ∙ (ok.turn turn).3)); seen = ok.seen; told = ok.told; fixed = ok.fixed; caller = ok.caller; spare = ok.spare; retired = ok.retired; apart = ok.apart; known = ok.known });
       } in (
         w,
         takes 0 y,
@@ -214,10 +219,9 @@ module _ {M O T : Type 0} (opening : M → O) (list : M → List (Entry T)) (o :
           y,
           (
             refl,
-            subst (λ (es : List (Entry T)). Begins v.0.seen es) (sym t.3) me.seen,
+            others_since v.0 (list y) (me.known live) own (subst (λ (es : List (Entry T)). Begins v.0.seen es) (sym t.3) me.seen),
             (me.fixed live).0 ∙ ap (λ (p : O). Some p) (sym t.2),
-            (me.caller live).2 ∙ (λ k. entries_of v.0.caller (drop (sym (me.fixed live).1 k) (sym t.3 k))),
-            at_least (sym (me.fixed live).1) (ap length (sym t.3)) r.begun,
+            own,
           ),
         ),
       )
@@ -248,6 +252,7 @@ module _ {M O T : Type 0} (opening : M → O) (list : M → List (Entry T)) (o :
       ap (λ (l : List (Entry T)). v.own ++ l) added_is ∙ ((λ i. (me.caller live).2 i ++ sym own i)
       ∙ (sym (filter-append (λ e. eqb e.caller v.caller) (drop base r.log) es) ∙ (ap (entries_of v.caller) (sym (drop-append-le base r.log es r.begun)) ∙ ap (λ (l : List (Entry T)). entries_of v.caller (drop base l)) (sym longer)))) in
       let begins : (seen : List (Entry T)) → Begins seen r.log → Begins seen (list y) = λ seen b. (b.0 ++ es, longer ∙ (ap (λ (l : List (Entry T)). l ++ es) b.1 ∙ append_assoc seen b.0 es)) in
+      let begun : base ≤ length (list y) = (let b = r.begun in let l = ap length longer ∙ length-append r.log es in omega arith) in
       let new : K record { words = r.next ∷ r.serving ∷ c ∷ []; homes = none ∷ []; views = set s.views id w } = record {
         next = r.next;
         serving = r.serving;
@@ -264,7 +269,7 @@ module _ {M O T : Type 0} (opening : M → O) (list : M → List (Entry T)) (o :
           (let t = total_set spare_count s.views id v w at in let l = length-set s.views id w in let h = r.few.1 in omega arith),
           r.few.2,
         );
-        begun = (let b = r.begun in let l = ap length longer ∙ length-append r.log es in omega arith);
+        begun = begun;
         homed = (id, w, set_here s.views id w (inside s.views id v at), on);
         seats = seats_set (SeatOk {M = M} none r.serving r.out (list y) o base callers r.holder r.owner) s.views id w
             (record {
@@ -278,6 +283,7 @@ module _ {M O T : Type 0} (opening : M → O) (list : M → List (Entry T)) (o :
               spare = λ x h. let a = me.spare x h in (a.0, a.1, a.2, keep x a.2 ∙ a.3, a.4);
               retired = me.retired;
               apart = me.apart;
+              known = λ l. own_to w base (list y) (me.fixed l).1 begun all;
             })
             (λ j u ne there. let ok = r.seats j u there in
             let apart : (x : ℕ) → r.owner x ≡ j → x ≢ v.caller = λ x e is. ne (sym e ∙ (ap r.owner is ∙ (me.caller live).1)) in record {
@@ -291,6 +297,7 @@ module _ {M O T : Type 0} (opening : M → O) (list : M → List (Entry T)) (o :
               spare = λ x h. let a = ok.spare x h in (a.0, a.1, a.2, keep x (apart x a.1) ∙ a.3, a.4);
               retired = ok.retired;
               apart = ok.apart;
+              known = ok.known;
             });
       } in
       shaped id (v, (0, y) ∷ []) 2 (λ n. (n + k) % 2 ^ 64) (Counts opening list (step slots 2 k 0 none) (v, (0, y) ∷ [])) s.views s.words (r.next ∷ r.serving ∷ length r.log ∷ []) s.homes (none ∷ []) r.words (r.homes ∙ ap (λ (h : maybe.Option M). h ∷ []) turn.3)
@@ -332,7 +339,7 @@ module _ {M O T : Type 0} (opening : M → O) (list : M → List (Entry T)) (o :
         begun = r.begun;
         homed = (same, lists ∙ turn.2);
         seats = seats_set (SeatOk {M = M} (some y) with_turn' (r.out - 1) r.log o base callers onward r.owner) s.views id w
-            (record { place = λ no. absurd (cc no); live = λ no. absurd (cc no); turn = λ no. absurd (cc no); seen = me.seen; told = me.told; fixed = me.fixed; caller = me.caller; spare = me.spare; retired = me.retired; apart = me.apart })
+            (record { place = λ no. absurd (cc no); live = λ no. absurd (cc no); turn = λ no. absurd (cc no); seen = me.seen; told = me.told; fixed = me.fixed; caller = me.caller; spare = me.spare; retired = me.retired; apart = me.apart; known = me.known })
             (λ j u ne there. let ok = r.seats j u there in record {
               place = λ on. let p = ok.place on in
                   let later : 0 < p.0 = elim (dec_zero p.0) [ inl z ↦ absurd (ne (sym p.2 ∙ (ap r.holder (z ∙ sym first) ∙ mine.2))) | inr lt ↦ lt ] in
@@ -347,6 +354,7 @@ module _ {M O T : Type 0} (opening : M → O) (list : M → List (Entry T)) (o :
               spare = ok.spare;
               retired = ok.retired;
               apart = ok.apart;
+              known = ok.known;
             });
       } in
       shaped id (v, (0, y) ∷ []) 1 (λ n. (n + 1) % 2 ^ 64) (Passes (step slots 1 1 0 none) (v, (0, y) ∷ [])) s.views s.words (r.next ∷ r.serving ∷ length r.log ∷ []) s.homes (none ∷ []) r.words (r.homes ∙ ap (λ (h : maybe.Option M). h ∷ []) turn.3)
@@ -373,6 +381,7 @@ module _ {M O T : Type 0} (opening : M → O) (list : M → List (Entry T)) (o :
       let left : V = left_view x v in let right : V = right_view x v in
       let me = r.seats id v at in
       let gift = me.spare x mine in
+      let known = me.known rests.0 in
       let owner' : ℕ → ℕ = given x n r.owner in
       let others : List V = set s.views id left in
       let after : List V = others ++ right ∷ [] in
@@ -391,6 +400,7 @@ module _ {M O T : Type 0} (opening : M → O) (list : M → List (Entry T)) (o :
         spare = λ y h. let t = has_without x y v.spare h in let a = me.spare y t.0 in (a.0, given_else x n r.owner y t.1 ∙ a.1, a.2, a.3, a.4);
         retired = λ y h. let a = me.retired y h in (a.0, given_else x n r.owner y (λ is. true_false (sym h ∙ (ap (λ (z : ℕ). has z v.retired) is ∙ gift.4))) ∙ a.1);
         apart = me.apart;
+        known = me.known;
       })
       (λ j u ne there. let ok = r.seats j u there in record {
         place = ok.place;
@@ -403,6 +413,7 @@ module _ {M O T : Type 0} (opening : M → O) (list : M → List (Entry T)) (o :
         spare = λ y h. let a = ok.spare y h in (a.0, apart j ne y a.1, a.2, a.3, a.4);
         retired = λ y h. let a = ok.retired y h in (a.0, apart j ne y a.1);
         apart = ok.apart;
+        known = ok.known;
       }) in
       record {
         next = r.next;
@@ -435,6 +446,7 @@ module _ {M O T : Type 0} (opening : M → O) (list : M → List (Entry T)) (o :
               spare = λ y no. absurd (cc no);
               retired = λ y no. absurd (cc no);
               apart = λ _. refl;
+              known = λ l. (known.0, sym (none_before x v.base v.seen r.log known.0 me.seen (ap (λ (k : ℕ). entries_of x (drop k r.log)) (me.fixed l).1 ∙ gift.3)));
             }))
             (at_end others j right u there);
       }
@@ -479,11 +491,17 @@ module _ {M O T : Type 0} (opening : M → O) (list : M → List (Entry T)) (o :
         begun = r.begun;
         homed = homed_same r.home r.log s.views id v.0 w at refl r.homed;
         seats = seats_set (SeatOk r.home r.serving r.out r.log o base callers r.holder r.owner) s.views id w
-            (record { place = me.place; live = me.live; turn = me.turn; seen = me.seen; told = (r.log, refl); fixed = me.fixed; caller = me.caller; spare = me.spare; retired = me.retired; apart = me.apart })
+            (record { place = me.place; live = me.live; turn = me.turn; seen = me.seen; told = (r.log, refl); fixed = me.fixed; caller = me.caller; spare = me.spare; retired = me.retired; apart = me.apart; known = me.known })
             (λ j u ne there. r.seats j u there);
       } in
       shaped id v 0 (λ n. n) (Compares (step slots 0 0 0 none) v) s.views s.words (r.next ∷ r.serving ∷ length r.log ∷ []) s.homes (r.home ∷ []) r.words r.homes
-      (w, keeps, tt, new, (refl, λ le. prefix_of v.0.told v.0.seen me.told.0 me.seen.0 (sym me.told.1 ∙ me.seen.1) le))
+      (w, keeps, tt, new, (refl, (λ le. prefix_of v.0.told v.0.seen me.told.0 me.seen.0 (sym me.told.1 ∙ me.seen.1) le), me.known))
+
+  -- what a seat has seen has all entries of its own
+  pub knows : (slots id : ℕ) (v : Sat) → Allows K slots id v 0 (λ n. n) (Knows (step slots 0 0 0 none) v)
+  knows slots id v s r one at small =
+      shaped id v 0 (λ n. n) (Knows (step slots 0 0 0 none) v) s.views s.words (r.next ∷ r.serving ∷ length r.log ∷ []) s.homes (r.home ∷ []) r.words r.homes
+      (v.0, keeps, tt, unchanged s r id v.0 at, (refl, (r.seats id v.0 at).known))
 
   pub joins : (id : ℕ) (v : V) (other : ℕ) (w : V) → Rests v → Rests w → Joins K id v other w (merged_view v w) spent_view
   joins id v other w rests theirs s r at apart there' =
@@ -514,6 +532,7 @@ module _ {M O T : Type 0} (opening : M → O) (list : M → List (Entry T)) (o :
             (λ f. let a = it.retired y f in (a.0, its y a.1))
             (has-append y (v.retired ++ w.caller ∷ []) w.retired h);
         apart = λ l. let a = me.caller l in not_retired v w v.caller (me.apart l) (λ is. ne (sym a.1 ∙ (ap r.owner is ∙ (it.caller theirs.0).1))) (λ ret. ne (sym a.1 ∙ (it.retired v.caller ret).1));
+        known = λ l. own_longer v w.seen r.log (me.known l) (own_to v base r.log (me.fixed l).1 r.begun (me.caller l).2) me.seen it.seen;
       })
       (λ i z off at' away'. let ok = r.seats i z at' in record {
         place = ok.place;
@@ -526,6 +545,7 @@ module _ {M O T : Type 0} (opening : M → O) (list : M → List (Entry T)) (o :
         spare = λ y h. let a = ok.spare y h in (a.0, moved_else other id r.owner y i away' a.1, a.2, a.3, a.4);
         retired = λ y h. let a = ok.retired y h in (a.0, moved_else other id r.owner y i away' a.1);
         apart = ok.apart;
+        known = ok.known;
       })
       j u e away in
       record {
@@ -548,7 +568,7 @@ module _ {M O T : Type 0} (opening : M → O) (list : M → List (Entry T)) (o :
         begun = r.begun;
         homed = homed_stays r.home r.log (set s.views id both) other w g there' theirs.2 (homed_stays r.home r.log s.views id v both at rests.2 r.homed);
         seats = seats_set (SeatOk r.home r.serving r.out r.log o base callers r.holder owner') (set s.views id both) other g
-            (record { place = λ no. absurd (cc no); live = λ no. absurd (cc no); turn = λ no. absurd (cc no); seen = (r.log, refl); told = (r.log, refl); fixed = λ no. absurd (cc no); caller = λ no. absurd (cc no); spare = λ y no. absurd (cc no); retired = λ y no. absurd (cc no); apart = λ no. absurd (cc no) })
+            (record { place = λ no. absurd (cc no); live = λ no. absurd (cc no); turn = λ no. absurd (cc no); seen = (r.log, refl); told = (r.log, refl); fixed = λ no. absurd (cc no); caller = λ no. absurd (cc no); spare = λ y no. absurd (cc no); retired = λ y no. absurd (cc no); apart = λ no. absurd (cc no); known = λ no. absurd (cc no) })
             (λ j u off e. first j u off e);
       }
 
@@ -564,7 +584,7 @@ module _ {M O T : Type 0} (opening : M → O) (list : M → List (Entry T)) (o :
 
   -- what the last seat knows of the machine that comes back
   pub closes : (id : ℕ) (v : V) (ws : List ℕ) (xs : List M) → Rests v → ((x : ℕ) → x < v.callers → (eqb x v.caller || (has x v.spare || has x v.retired)) ≡ true) → Final (Seen K id v) ws xs → (y : M) → get_elem? xs 0 ≡ some y
-      → (v.opening ≡ Some (opening y)) × Begins v.seen (list y) × (v.own ≡ entries_of v.caller (drop v.base (list y)))
+      → (v.opening ≡ Some (opening y)) × Begins v.seen (list y) × IsOwn v (list y)
   closes id v ws xs rests all last y there =
       let s : St = last.0 in let r : K s = last.1.0 in let at : get_elem? s.views id ≡ some v = last.1.1 in
       let me = r.seats id v at in let fixed = me.fixed rests.0 in
@@ -573,7 +593,7 @@ module _ {M O T : Type 0} (opening : M → O) (list : M → List (Entry T)) (o :
       (or_cases (eqb x v.caller) (has x v.spare || has x v.retired) (all x (subst (λ (n : ℕ). x < n) (sym fixed.2) lt))) in
       let here : (home : maybe.Option M) → home ≡ r.home → Homed opening list o r.log s.views home → (opening y ≡ o) × (list y ≡ r.log) = elim_home s r id v at rests owned y xs there last.4 in
       let h = here r.home refl r.homed in
-      ((fixed.0 ∙ ap (λ (p : O). Some p) (sym h.0)), subst (λ (es : List (Entry T)). Begins v.seen es) (sym h.1) me.seen, (me.caller rests.0).2 ∙ (λ k. entries_of v.caller (drop (sym fixed.1 k) (sym h.1 k))))
+      ((fixed.0 ∙ ap (λ (p : O). Some p) (sym h.0)), subst (λ (es : List (Entry T)). Begins v.seen es) (sym h.1) me.seen, subst (λ (es : List (Entry T)). IsOwn v es) (sym h.1) (own_to v base r.log fixed.1 r.begun (me.caller rests.0).2))
 
 module _ {M O T : Type 0} (opening : M → O) (list : M → List (Entry T)) where
   begins_both : (xs ys : List (Entry T)) (b : Bool) → ltb (length xs) (length ys) ≡ b → (length (cond b xs ys) ≤ length (cond b ys xs) → Begins (cond b xs ys) (cond b ys xs)) → Begins xs (cond b ys xs) × Begins ys (cond b ys xs)
@@ -586,6 +606,9 @@ module _ {M O T : Type 0} (opening : M → O) (list : M → List (Entry T)) wher
       subst (λ (u : View O T). length u.told ≤ length u.seen → Begins u.told u.seen) is learnt in
       subst (λ (es : List (Entry T)). Begins v.seen es × Begins w.seen es) (sym (ap (λ (u : View O T). u.seen) (then ∙ ap (λ (u : View O T). compared_view u) is)))
       (begins_both v.seen w.seen (ltb (length v.seen) (length w.seen)) refl learnt')
+
+  pub joins_own : (v w a b : View O T) → a ≡ merged_view v w → b ≡ compared_view a → v.live ≡ true → (a.live ≡ true → IsOwn a a.seen) → IsOwn b b.seen
+  joins_own v w a b is then live learnt = subst (λ (u : View O T). IsOwn u u.seen) (sym then) (learnt (ap (λ (u : View O T). u.live) is ∙ live))
 
   pub opens : (m : M) (callers c : ℕ) → 1 ≤ callers → callers < 2 ^ 32 → c ≡ length (list m) → Kept opening list (opening m) (length (list m)) callers (Table.opening (0 ∷ 0 ∷ c ∷ []) (m ∷ []) (first_view (opening m) (list m) callers))
   opens m callers c some_caller few count =
@@ -616,12 +639,13 @@ module _ {M O T : Type 0} (opening : M → O) (list : M → List (Entry T)) wher
               spare = λ x h. let t = has_below x 1 (callers - 1) h in let p = t.0 in let q = t.1 in (omega arith, refl, (λ z. omega arith), ap (entries_of x) (drop_all (list m)), refl);
               retired = λ x no. absurd (cc no);
               apart = λ _. refl;
+              known = λ _. (omega arith, sym (ap (entries_of 0) (drop_all (list m))));
             }))
             (at_end [] j v w e);
       }
 
--- what a whole call tells
-module _ {M O T Y : Type 0} (opening : M → O) (list : M → List (Entry T)) (allows : O → List (Entry T) → ℕ → T → Y → Type 0) (records : O → Y → Bool) where
+-- a list with one entry more, or none
+module _ {T : Type 0} where
   own_added : (xs own zs : List (Entry T)) (b : Bool) (e : Entry T) → zs ≡ added xs b e → own ++ drop (length xs) zs ≡ added own b e
   own_added xs own zs true e is = ap (λ (l : List (Entry T)). own ++ drop (length xs) l) is ∙ ap (λ (l : List (Entry T)). own ++ l) (drop-append_seam xs (e ∷ []))
   own_added xs own zs false e is = ap (λ (l : List (Entry T)). own ++ drop (length xs) l) is ∙ (ap (λ (l : List (Entry T)). own ++ l) (drop_all xs) ∙ append-nil own)
@@ -633,34 +657,9 @@ module _ {M O T Y : Type 0} (opening : M → O) (list : M → List (Entry T)) (a
       (λ i. all i ++ sym one i) ∙ (sym (filter-append (λ f. eqb f.caller by) (drop base xs) (e ∷ [])) ∙ (ap (entries_of by) (sym (drop-append-le base xs (e ∷ []) le)) ∙ ap (λ (l : List (Entry T)). entries_of by (drop base l)) (sym is)))
   all_added xs own zs false by base x le all is = all ∙ ap (λ (l : List (Entry T)). entries_of by (drop base l)) (sym is)
 
-  abbrev Sit : Type 0
-  Sit = Me M (View O T)
-
-  pub tells : (v : View O T) (d t s n p : Sit) (ticket : ℕ) (y y' z : M) (by : ℕ) (x : T) (reply : Y) (front : ℕ) → Rests v → v.caller ≡ by → d ≡ (with_ticket ticket v, []) → Takes opening list d y t → t.1 ≡ (0, y') ∷ [] → s.0 ≡ t.0
-      → allows (opening y') (list y') by x reply → list z ≡ added (list y') (records (opening y') reply) (entry by x) → front ≡ length (list z) → n.0 ≡ with_list (list z) s.0 → p.0 ≡ without_ticket n.0
-      → Stepped allows records (opening y) v p.0 x reply front
-  tells v d t s n p ticket y y' z by x reply front rests named drawn took held kept answer grew long counted_is passed_is =
-      let T' : Takes opening list (with_ticket ticket v, []) y t = subst (λ (m : Sit). Takes opening list m y t) drawn took in
-      let same : y' ≡ y = ap (λ (l : List (ℕ × M)). (get_or l 0 (0, y)).1) (sym held ∙ ap (λ (m : Sit). m.1) T'.0) in
-      let w : View O T = without_ticket (with_list (list z) (with_turn (list y) (with_ticket ticket v))) in
-      let is : p.0 ≡ w = passed_is ∙ (ap (λ (u : View O T). without_ticket u) counted_is ∙ ap (λ (u : View O T). without_ticket (with_list (list z) u)) (kept ∙ ap (λ (m : Sit). m.0) T'.0)) in
-      let b : Bool = records (opening y) reply in
-      let answer' : allows (opening y) (list y) v.caller x reply = subst (λ (q : M × ℕ). allows (opening q.0) (list q.0) q.1 x reply) (λ i. (same i, sym named i)) answer in
-      let grew' : list z ≡ added (list y) b (entry v.caller x) = grew ∙ (λ i. added (list (same i)) (records (opening (same i)) reply) (entry (sym named i) x)) in
-      let own : w.own ≡ added v.own b (entry v.caller x) = own_added (list y) v.own (list z) b (entry v.caller x) grew' in
-      subst (λ (u : View O T). Stepped allows records (opening y) v u x reply front) (sym is) (record {
-        before = list y;
-        begins = T'.1;
-        own_before = T'.3;
-        since_open = T'.4;
-        opening_is = T'.2;
-        allowed = answer';
-        seen_is = grew';
-        front_is = long;
-        own_is = own;
-        each_once = own ∙ all_added (list y) v.own (list z) b v.caller v.base x T'.4 T'.3 grew';
-        else_same = λ i. record w { has_ticket = sym rests.1 i; turn = sym rests.2 i; ticket = sym rests.3 i };
-      })
+  added_le : (base : ℕ) (xs zs : List (Entry T)) (b : Bool) (e : Entry T) → base ≤ length xs → zs ≡ added xs b e → base ≤ length zs
+  added_le base xs zs true e le is = let l = ap length is ∙ length-append xs (e ∷ []) in omega arith
+  added_le base xs zs false e le is = let l = ap length is in omega arith
 
   added_tail : (xs : List (Entry T)) (b : Bool) (e : Entry T) → added xs b e ≡ xs ++ added [] b e
   added_tail xs true e = refl
@@ -673,6 +672,36 @@ module _ {M O T Y : Type 0} (opening : M → O) (list : M → List (Entry T)) (a
   calls_other : (b : Bool) (n by : ℕ) (x : T) → n ≢ by → entries_of n (added [] b (entry by x)) ≡ []
   calls_other true n by x ne = let e : Entry T = entry by x in ap (λ (t : Bool). cond t (e ∷ []) []) (ne_eqb by n (λ is. ne (sym is)))
   calls_other false n by x ne = refl
+
+-- what a whole call tells
+module _ {M O T : Type 0} (opening : M → O) (list : M → List (Entry T)) where
+  abbrev Sit : Type 0
+  Sit = Me M (View O T)
+
+  pub tells : {Y : Type 0} → (allows : O → List (Entry T) → ℕ → T → Y → Type 0) (records : O → T → Y → Bool) → (v : View O T) (d t s n p : Sit) (ticket : ℕ) (y y' z : M) (by : ℕ) (x : T) (reply : Y) (front : ℕ) → Rests v → v.caller ≡ by → d ≡ (with_ticket ticket v, []) → Takes opening list d y t → t.1 ≡ (0, y') ∷ [] → s.0 ≡ t.0
+      → allows (opening y') (list y') by x reply → list z ≡ added (list y') (records (opening y') x reply) (entry by x) → front ≡ length (list z) → n.0 ≡ with_list (list z) s.0 → p.0 ≡ without_ticket n.0
+      → Stepped allows records (opening y) v p.0 x reply front
+  tells allows records v d t s n p ticket y y' z by x reply front rests named drawn took held kept answer grew long counted_is passed_is =
+      let T' : Takes opening list (with_ticket ticket v, []) y t = subst (λ (m : Sit). Takes opening list m y t) drawn took in
+      let same : y' ≡ y = ap (λ (l : List (ℕ × M)). (get_or l 0 (0, y)).1) (sym held ∙ ap (λ (m : Sit). m.1) T'.0) in
+      let w : View O T = without_ticket (with_list (list z) (with_turn (list y) (with_ticket ticket v))) in
+      let is : p.0 ≡ w = passed_is ∙ (ap (λ (u : View O T). without_ticket u) counted_is ∙ ap (λ (u : View O T). without_ticket (with_list (list z) u)) (kept ∙ ap (λ (m : Sit). m.0) T'.0)) in
+      let b : Bool = records (opening y) x reply in
+      let answer' : allows (opening y) (list y) v.caller x reply = subst (λ (q : M × ℕ). allows (opening q.0) (list q.0) q.1 x reply) (λ i. (same i, sym named i)) answer in
+      let grew' : list z ≡ added (list y) b (entry v.caller x) = grew ∙ (λ i. added (list (same i)) (records (opening (same i)) x reply) (entry (sym named i) x)) in
+      let own : w.own ≡ added v.own b (entry v.caller x) = own_added (list y) v.own (list z) b (entry v.caller x) grew' in
+      subst (λ (u : View O T). Stepped allows records (opening y) v u x reply front) (sym is) (record {
+        before = list y;
+        others = T'.1;
+        own_before = T'.3;
+        opening_is = T'.2;
+        allowed = answer';
+        seen_is = grew';
+        front_is = long;
+        own_is = own;
+        each_once = (added_le v.base (list y) (list z) b (entry v.caller x) T'.3.0 grew', own ∙ all_added (list y) v.own (list z) b v.caller v.base x T'.3.0 T'.3.1 grew');
+        else_same = λ i. record w { has_ticket = sym rests.1 i; turn = sym rests.2 i; ticket = sym rests.3 i };
+      })
 
   pub adds_up : (v : View O T) (d t s : Sit) (ticket : ℕ) (y y' z : M) (by : ℕ) (x : T) (b : Bool) (before after : ℕ) → v.caller ≡ by → d ≡ (with_ticket ticket v, []) → t ≡ (with_turn (list y) d.0, (0, y) ∷ d.1) → t.1 ≡ (0, y') ∷ [] → s.0 ≡ t.0
       → list z ≡ added (list y') b (entry by x) → before ≡ length (list y') → after ≡ length (list z)

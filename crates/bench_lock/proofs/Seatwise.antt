@@ -8,6 +8,8 @@ use Rattle.bench_lock.specs.declared.entry.Entry.{Entry}
 use Rattle.bench_lock.specs.declared.view.View.{View}
 use Rattle.bench_lock.specs.Log.{entries_of, Begins, has}
 use Rattle.bench_lock.specs.Rule.{total, ticket_count, spare_count, SomeHasTurn, Rule}
+use Rattle.bench_lock.specs.Views.{IsOwn}
+use Rattle.bench_lock.proofs.Own.{own_from, own_to}
 
 module _ {M O T : Type 0} where
   pub record SeatOk (home : maybe.Option M) (serving out : ℕ) (log : List (Entry T)) (opening : O) (base callers : ℕ) (holder owner : ℕ → ℕ) (j : ℕ) (w : View O T) : Type 0 where
@@ -21,6 +23,7 @@ module _ {M O T : Type 0} where
     pub spare : (x : ℕ) → has x w.spare ≡ true → (x < callers) × (owner x ≡ j) × (x ≢ w.caller) × (entries_of x (drop base log) ≡ []) × (has x w.retired ≡ false)
     pub retired : (x : ℕ) → has x w.retired ≡ true → (x < callers) × (owner x ≡ j)
     pub apart : w.live ≡ true → has w.caller w.retired ≡ false
+    pub known : w.live ≡ true → IsOwn w w.seen
 
 module _ {M O T : Type 0} (opening : M → O) (list : M → List (Entry T)) where
   -- the machine at home has the list, or else a seat has the turn
@@ -78,10 +81,11 @@ module _ {M O T : Type 0} (opening : M → O) (list : M → List (Entry T)) wher
       seen = (r.one_list.seen j w at).0;
       told = (r.one_list.seen j w at).1;
       fixed = r.one_list.fixed j w at;
-      caller = λ l. let a = r.numbers.caller j w at l in (a.0, a.1, r.numbers.own j w at l);
+      caller = λ l. let a = r.numbers.caller j w at l in (a.0, a.1, own_from w base r.log (r.one_list.fixed j w at l).1 (r.numbers.own j w at l).0);
       spare = r.numbers.spare j w at;
       retired = r.numbers.retired j w at;
       apart = λ l. (r.numbers.caller j w at l).2;
+      known = λ l. (r.numbers.own j w at l).1;
     };
   }
 
@@ -109,7 +113,7 @@ module _ {M O T : Type 0} (opening : M → O) (list : M → List (Entry T)) wher
     numbers = record {
       live = λ j w at. (r.seats j w at).live;
       caller = λ j w at l. let ok = r.seats j w at in let a = ok.caller l in (a.0, a.1, ok.apart l);
-      own = λ j w at l. ((r.seats j w at).caller l).2;
+      own = λ j w at l. let ok = r.seats j w at in (own_to w base r.log (ok.fixed l).1 r.begun (ok.caller l).2, ok.known l);
       spare = λ j w at. (r.seats j w at).spare;
       retired = λ j w at. (r.seats j w at).retired;
     };

@@ -7,6 +7,7 @@ use Rattle.atomic_table.specs.Table.{State}
 use Rattle.bench_lock.specs.declared.entry.Entry.{Entry}
 use Rattle.bench_lock.specs.declared.view.View.{View}
 use Rattle.bench_lock.specs.Log.{entries_of, Begins, has}
+use Rattle.bench_lock.specs.Views.{IsOwn}
 
 -- the numbers f of the elements, added up
 abbrev pub total : {A : Type 0} → (A → ℕ) → List A → ℕ
@@ -54,12 +55,12 @@ module _ {O T : Type 0} where
     pub since_open : base ≤ length log
 
   -- 5. The callers, spare callers and retired callers of all views are distinct and below the number of callers: the number x belongs to the seat `owner x` alone, and is one of the three there.
-  -- A spare caller has no entry in the list from the length at opening on, and a view's own entries are those of its caller from there on.
+  -- A spare caller has no entry in the list from the length at opening on. A view's own entries are those of its caller from there on, and it has seen them all.
   -- The fixed view of a joined seat is excepted: it is not live, and has no numbers and no ticket.
   pub record OwnCallers (base callers : ℕ) (log : List (Entry T)) (owner : ℕ → ℕ) (views : List (View O T)) : Type 0 where
     pub live : Each (λ j w. w.has_ticket ≡ true → w.live ≡ true) views
     pub caller : Each (λ j w. w.live ≡ true → (w.caller < callers) × (owner w.caller ≡ j) × (has w.caller w.retired ≡ false)) views
-    pub own : Each (λ j w. w.live ≡ true → w.own ≡ entries_of w.caller (drop base log)) views
+    pub own : Each (λ j w. w.live ≡ true → IsOwn w log × IsOwn w w.seen) views
     pub spare : Each (λ j w. (x : ℕ) → has x w.spare ≡ true → (x < callers) × (owner x ≡ j) × (x ≢ w.caller) × (entries_of x (drop base log) ≡ []) × (has x w.retired ≡ false)) views
     pub retired : Each (λ j w. (x : ℕ) → has x w.retired ≡ true → (x < callers) × (owner x ≡ j)) views
 

@@ -30,6 +30,16 @@ abbrev pub numbers_from : ℕ → ℕ → List ℕ
 numbers_from k zero = []
 numbers_from k (suc n) = k ∷ numbers_from (suc k) n
 
+-- A seat's entries in a list
+module _ {O T : Type 0} where
+  -- in the list es, from the length at opening on, the entries of the seat's caller are just the seat's own
+  abbrev pub IsOwn : View O T → List (Entry T) → Type 0
+  IsOwn v es = (v.base ≤ length es) × (v.own ≡ entries_of v.caller (drop v.base es))
+
+  -- the list es is what the seat has seen, with entries of others behind it
+  abbrev pub OthersSince : View O T → List (Entry T) → Type 0
+  OthersSince v es = (others : List (Entry T)) × (es ≡ v.seen ++ others) × (entries_of v.caller others ≡ [])
+
 -- The calls
 module _ {O T : Type 0} where
   -- open: the caller is 0 and all other callers are spare. The machine has the opening o and the list es
@@ -109,12 +119,16 @@ module _ {M O T : Type 0} where
 
   -- compare: of the two lists of a joined seat the shorter begins the longer
   abbrev pub Compares : Step M → Seated M O T → ℕ → Seated M O T → Type 0
-  Compares st v n w = (w ≡ (compared_view v.0, v.1)) × (length v.0.told ≤ length v.0.seen → Begins v.0.told v.0.seen)
+  Compares st v n w = (w ≡ (compared_view v.0, v.1)) × (length v.0.told ≤ length v.0.seen → Begins v.0.told v.0.seen) × (v.0.live ≡ true → IsOwn v.0 v.0.seen)
+
+  -- know: all entries of a seat's caller in what it has seen are its own
+  abbrev pub Knows : Step M → Seated M O T → ℕ → Seated M O T → Type 0
+  Knows st v n w = (w ≡ v) × (v.0.live ≡ true → IsOwn v.0 v.0.seen)
 
 module _ {M O T : Type 0} (opening : M → O) (list : M → List (Entry T)) where
-  -- the seat has the turn and the machine y, whose list it sees: it begins with what the seat had seen, and from the length at opening on has of its caller just its own entries
+  -- the seat has the turn and the machine y, whose list it sees: it is what the seat had seen with entries of others behind it, and from the length at opening on has of its caller just its own entries
   abbrev pub Takes : Seated M O T → M → Seated M O T → Type 0
-  Takes v y w = (w ≡ (with_turn (list y) v.0, (0, y) ∷ v.1)) × Begins v.0.seen (list y) × (v.0.opening ≡ Some (opening y)) × (v.0.own ≡ entries_of v.0.caller (drop v.0.base (list y))) × (v.0.base ≤ length (list y))
+  Takes v y w = (w ≡ (with_turn (list y) v.0, (0, y) ∷ v.1)) × OthersSince v.0 (list y) × (v.0.opening ≡ Some (opening y)) × IsOwn v.0 (list y)
 
   -- look: the machine is taken exactly where the number found is the seat's ticket
   abbrev pub Looks : Step M → Seated M O T → ℕ → Seated M O T → Type 0

@@ -10,6 +10,7 @@
 
 mod applied;
 mod entry;
+mod laws;
 mod machine;
 mod rule;
 mod seats;
@@ -20,6 +21,7 @@ mod view;
 
 pub use applied::Applied;
 pub use entry::Entry;
+pub use laws::steps_after_others;
 pub use machine::Machine;
 pub use seats::{Seat, Shared};
 pub use view::View;

@@ -1,5 +1,5 @@
 //! A sum with a limit, and the steps that made it.
-ghost use Rattle.std.specs.Prelude.{◌≡◌, ◌+◌, ◌≤◌, ◌^◌, ◌<◌, length, sum_by, IfSome, is_some};
+ghost use Rattle.std.specs.Prelude.{◌≡◌, ◌+◌, ◌≤◌, ◌^◌, ◌<◌, ◌==◌, ◌&&◌, not, length, sum_by, IfSome, is_some};
 
 use crate::entry::Entry;
 use crate::machine::Machine;
@@ -41,12 +41,16 @@ impl Machine for Counter {
 
     ghost allows = { λ limit es by x reply. IfSome reply (λ n. (n ≡ sum_by (λ e. e.step) es + x) × (n ≤ limit)) };
 
-    ghost records = { λ limit reply. is_some reply };
+    ghost records = { λ limit step reply. is_some reply && not (step == 0) };
 
+    /// Adds the step to the sum. A step of 0 isn't recorded, though it has the reply of any other.
     fn step(&mut self, caller: u32, step: u32) -> Option<u64> {
         let Counter { limit, sum, log } = self;
         if log.len() >= 4_294_967_295 || *sum > *limit || u64::from(step) > *limit - *sum {
             return None;
+        }
+        if step == 0 {
+            return Some(*sum);
         }
         if log.reserve(1).is_err() {
             return None;
