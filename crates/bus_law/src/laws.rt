@@ -1,0 +1,19 @@
+//! Laws of the bus. Each function does nothing; its contract is the law.
+
+ghost use Rattle.bus_law.specs.Laws.{KeepsTheLaws, HasOneAnswer, ConnectsSo};
+
+/// Each call keeps the laws of a bus.
+pub fn bus_is_lawful()
+    ensures { KeepsTheLaws }
+{}
+
+/// A call with one word has one answer, and leaves one bus.
+pub fn answers_are_one()
+    ensures { HasOneAnswer }
+{}
+
+/// A selection connects its target, a reselection the one that comes, and every other call leaves it so or frees the
+/// bus.
+pub fn connects_one()
+    ensures { ConnectsSo }
+{}
