@@ -1,6 +1,6 @@
 //! Laws of the bus. Each function does nothing; its contract is the law.
 
-ghost use Rattle.bus_law.specs.Laws.{KeepsTheLaws, HasOneAnswer, ConnectsSo};
+ghost use Rattle.bus_law.specs.Laws.{KeepsTheLaws, HasOneAnswer, ConnectsSo, OpensConnected, StaysConnected, ResetsConnected};
 
 /// Each call keeps the laws of a bus.
 pub fn bus_is_lawful()
@@ -16,4 +16,11 @@ pub fn answers_are_one()
 /// bus.
 pub fn connects_one()
     ensures { ConnectsSo }
+{}
+
+/// At most one device isn't free, and it is the connected one: at the opening, after each call, and after a bus reset.
+pub fn one_connected()
+    ensures opens { OpensConnected }
+    ensures stays { StaysConnected }
+    ensures resets { ResetsConnected }
 {}

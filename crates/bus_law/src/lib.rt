@@ -4,4 +4,4 @@
 
 mod laws;
 
-pub use laws::{answers_are_one, bus_is_lawful, connects_one};
+pub use laws::{answers_are_one, bus_is_lawful, connects_one, one_connected};
