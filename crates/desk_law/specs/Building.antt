@@ -1,5 +1,5 @@
 -- Build: the ticket of an accepted request, and what is made of the desk and of memory (own).
-use Rattle.std.specs.Prelude.{◌≡◌, ℕ, ◌*◌, ◌==◌, ◌&&◌, not, if◌then◌else◌, Bool, false, List, [], ◌∷◌, ◌++◌, length, map, zip, find, None, unwrap_or}
+use Rattle.std.specs.Prelude.{◌≡◌, ℕ, ◌*◌, ◌==◌, not, if◌then◌else◌, Bool, false, List, [], ◌∷◌, ◌++◌, length, map, zip, find, None, unwrap_or}
 use Rattle.std.specs.List.{range_with_len, list_any}
 use Rattle.rig_types.specs.declared.step.Line.{Line}
 use Rattle.unit_law.specs.Request.{PlainRequest}

@@ -1,5 +1,5 @@
 -- What the desk keeps, and what its readers tell (own).
-use Rattle.std.specs.Prelude.{◌≡◌, ℕ, ◌+◌, ◌-◌, ◌*◌, ◌==◌, ◌&&◌, not, Bool, true, false, List, [], length, map, filter, position, replicate, slice_index_or, slice_set, Option, None}
+use Rattle.std.specs.Prelude.{ℕ, ◌+◌, ◌-◌, ◌==◌, ◌&&◌, not, Bool, true, false, List, [], length, map, filter, position, replicate, slice_index_or, slice_set, Option, None}
 use Rattle.std.specs.List.{range_with_len}
 use Rattle.scsi_words.specs.declared.phases.kinds.Direction.TheVariants.{None as NoData}
 use Rattle.rig_types.specs.declared.rig.Unit.{Unit as RigUnit}

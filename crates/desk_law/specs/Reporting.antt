@@ -1,5 +1,5 @@
 -- The report that Free makes (own).
-use Rattle.std.specs.Prelude.{ℕ, ◌==◌, ◌+◌, if◌then◌else◌, Bool, true, false, List, [], length, Option, unwrap_or}
+use Rattle.std.specs.Prelude.{ℕ, ◌==◌, ◌+◌, if◌then◌else◌, List, [], length, unwrap_or}
 use Rattle.scsi_words.specs.declared.statuses.kinds.Status.TheVariants as status
 use Rattle.scsi_words.specs.Statuses.{status_code}
 use Rattle.bench_words.specs.Memory.{word_at, bytes_at}

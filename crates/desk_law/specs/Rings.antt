@@ -1,5 +1,5 @@
 -- The rings as the driver reads them (own): which blocks wait in the start ring, and which ticket stands in the done slot that is taken next.
-use Rattle.std.specs.Prelude.{◌≡◌, ℕ, ◌+◌, ◌-◌, ◌/◌, ◌%◌, ◌==◌, ◌&&◌, nat_lt, nat_le, not, zero, suc, if◌then◌else◌, Bool, true, false, List, [], ◌∷◌, map, Option}
+use Rattle.std.specs.Prelude.{ℕ, ◌+◌, ◌-◌, ◌/◌, ◌%◌, ◌==◌, ◌&&◌, nat_lt, nat_le, not, zero, suc, if◌then◌else◌, Bool, List, [], ◌∷◌, map, Option}
 use Rattle.std.specs.List.{list_any}
 use Rattle.bench_words.specs.Memory.{word_at}
 use Rattle.host_map.specs.declared.TheConstants.{RINGP, START_RING}

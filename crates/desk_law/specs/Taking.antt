@@ -1,6 +1,6 @@
 -- TakeDone: what becomes of the ticket whose block stands in the done slot (own; BUSY, QUEUE FULL and CHECK CONDITION are SCSI-2's, 7.3
 -- status).
-use Rattle.std.specs.Prelude.{◌≡◌, ℕ, ◌%◌, ◌==◌, ◌&&◌, ◌||◌, nat_le, not, if◌then◌else◌, Bool, true, false, List, slice_index_or}
+use Rattle.std.specs.Prelude.{ℕ, ◌%◌, ◌==◌, ◌&&◌, ◌||◌, nat_le, not, if◌then◌else◌, Bool, true, false, List}
 use Rattle.scsi_words.specs.declared.statuses.kinds.Status.TheVariants as status
 use Rattle.scsi_words.specs.Statuses.{status_code}
 use Rattle.bench_words.specs.Memory.{put_word}
