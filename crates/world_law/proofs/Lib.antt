@@ -1,0 +1,4 @@
+pub mod RunLaws
+pub mod Drained
+pub mod Patching
+pub mod Effects

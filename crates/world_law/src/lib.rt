@@ -2,8 +2,10 @@
 //! opening on. These are definitions with their laws; the types that run are the replies and the owners of words.
 #![tactic(auto)]
 
+mod laws;
 mod owner;
 mod reply;
 
+pub use laws::{one_moment_longer, patches_once, rests_drained};
 pub use owner::Owner;
 pub use reply::{Decided, Reply, Seen, Stop};
