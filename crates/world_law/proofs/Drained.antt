@@ -53,7 +53,7 @@ none-due (n ∷ ns) (suc c) h = none-due ns c (both (n == 0) (list_all (λ (n : 
 same-length : (a b : ℕ) → a == b ≡ true → a ≡ b
 same-length a b h = grind (arith, nat_tests, h)
 
-no-line-left : (css : List (List Command)) (lss : List (List Decided)) (s : ℕ) → all_decided css lss ≡ true → length (slice_index_or css s []) ≤ length (slice_index_or lss s [])
+pub no-line-left : (css : List (List Command)) (lss : List (List Decided)) (s : ℕ) → all_decided css lss ≡ true → length (slice_index_or css s []) ≤ length (slice_index_or lss s [])
 no-line-left [] lss s h = omega arith
 no-line-left (cs ∷ css) [] zero h = omega (arith, is-zero (length cs) (both (length cs == 0) (all_decided css []) h).0)
 no-line-left (cs ∷ css) [] (suc s) h = no-line-left css [] s (both (length cs == 0) (all_decided css []) h).1

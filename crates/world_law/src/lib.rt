@@ -6,6 +6,8 @@ mod laws;
 mod owner;
 mod reply;
 
-pub use laws::{one_moment_longer, patches_once, rests_drained};
+pub use laws::{
+    longer_works, one_moment_longer, others_leave, patches_once, reports_accepted, rests_drained,
+};
 pub use owner::Owner;
 pub use reply::{Decided, Reply, Seen, Stop};
