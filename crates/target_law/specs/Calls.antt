@@ -72,6 +72,26 @@ slot_is_rogue (Some u) = u.rig.rogue
 unfoldable pub is_rogue : Target → Bool
 is_rogue t = list_any slot_is_rogue t.units
 
+-- units that break the rules are connected
+abbrev pub is_straying : Link → Bool
+is_straying (Straying s n) = true
+is_straying _ = false
+
+-- a target answers a selection where a unit of it isn't absent; it is absent where it has units, and none that answers
+abbrev pub slot_answers : Option LogicalUnit → Bool
+slot_answers None = false
+slot_answers (Some u) = not u.rig.absent
+
+abbrev pub slot_has_unit : Option LogicalUnit → Bool
+slot_has_unit None = false
+slot_has_unit (Some u) = true
+
+unfoldable pub answers : Target → Bool
+answers t = list_any slot_answers t.units
+
+unfoldable pub is_absent : Target → Bool
+is_absent t = list_any slot_has_unit t.units && not (answers t)
+
 -- a target is selected: it shows MSG_OUT
 abbrev pub selected_by : Bool → Link
 selected_by true = Straying stray.Hearing None

@@ -1,21 +1,14 @@
--- The lawful moves of a target that is to choose, with the entries that they log, and which of them a word names. Source: own.
-use Rattle.std.specs.Prelude.{◌≡◌, ℕ, List, [], ◌++◌, Option, Some, None}
-use Rattle.unit_law.specs.declared.entry.LogEntry.{LogEntry}
+-- The lawful moves of a target that is to choose, and which of them a word names. Source: own.
+use Rattle.std.specs.Prelude.{◌≡◌, ℕ, Option, Some, None}
 use Rattle.unit_law.specs.Log.{tally}
 use Rattle.target_law.specs.declared.moves.Move.{Move}
 use Rattle.target_law.specs.declared.moves.Move.TheVariants.{Rogue}
 use Rattle.target_law.specs.declared.showing.Showing.TheVariants.{Choosing}
 use Rattle.target_law.specs.declared.stray.Stray.TheVariants as stray
-use Rattle.target_law.specs.Session.{Session, Can, acted}
+use Rattle.target_law.specs.Session.{Can}
 use Rattle.target_law.specs.Choice.{Names}
 use Rattle.target_law.specs.Bytes.{Connection}
 use Rattle.target_law.specs.Target.{LogicalUnit, Link, Free, Greeted, Commanded, Working, Straying, Target, unit_at, session}
-
--- from one session a move leads to another, and logs these entries
-pub record Lawful (limit refused : ℕ) (old : Session) (m : Move) (new : Session) (entries : List LogEntry) : Type 0 where
-  pub lawful : Can m old limit refused
-  pub after : new ≡ acted m old
-  pub logged : new.log ≡ old.log ++ entries
 
 -- there is a unit, and this holds of it
 abbrev pub IsThere : Option LogicalUnit → (LogicalUnit → Type 0) → Type 0

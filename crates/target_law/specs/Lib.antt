@@ -4,5 +4,9 @@ pub mod Bytes
 pub mod Strays
 pub mod Target
 pub mod Calls
+pub mod Beginning
+pub mod Devices
 pub mod Lawful
 pub mod Sound
+pub mod Rigs
+pub mod Laws

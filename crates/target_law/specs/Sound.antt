@@ -1,5 +1,5 @@
 -- What holds of every task, session and unit of a target that keeps the rules.
-use Rattle.std.specs.Prelude.{◌≡◌, ℕ, ◌+◌, ◌<◌, ◌≤◌, Bool, true, false, List, [], length, Option, Some, None}
+use Rattle.std.specs.Prelude.{◌≡◌, ◌≢◌, ℕ, ◌+◌, ◌<◌, ◌≤◌, ◌==◌, if◌then◌else◌, Bool, true, false, List, [], ◌∷◌, length, Option, Some, None}
 use Rattle.std.specs.List.{All, AllPairs}
 use Rattle.scsi_words.specs.declared.phases.kinds.Direction.{Direction}
 use Rattle.scsi_words.specs.declared.phases.kinds.Direction.TheVariants.{In, Out, None as NoData}
@@ -14,6 +14,7 @@ use Rattle.target_law.specs.declared.showing.Verdict.{Verdict}
 use Rattle.target_law.specs.declared.showing.Verdict.TheVariants.{Answered as HasAnswered, Refused}
 use Rattle.target_law.specs.Session.{Task, Session, remaining, status_of}
 use Rattle.target_law.specs.Choice.{Choosable}
+use Rattle.target_law.specs.Target.{LogicalUnit, Link, Working, Target, unit_at}
 
 -- a command that sends moves what is kept; one that receives was performed nowhere, and has received no more than the unit wants; nothing
 -- else has moved
@@ -70,3 +71,12 @@ pub record IsSound (s : Session) : Type 0 where
 pub record IsWaiting (u : Plain) (k : Task) : Type 0 where
   pub task : IsSoundTask u k
   pub turn : k.just_moved ≡ false
+
+-- the tasks of a unit by its LUN: one that is connected, and those that aren't
+abbrev pub tasks_at : Link → (lun : ℕ) → LogicalUnit → List Task
+tasks_at (Working c) lun u = if c.lun == lun then c.task ∷ u.tasks else u.tasks
+tasks_at _ lun u = u.tasks
+
+-- no two tasks of a unit have one tag
+abbrev pub HaveDistinctTags : Target → Type 0
+HaveDistinctTags t = (lun : ℕ) (u : LogicalUnit) → unit_at t.units lun ≡ Some u → AllPairs (λ (j : Task) (k : Task). j.tag ≢ k.tag) (tasks_at t.link lun u)

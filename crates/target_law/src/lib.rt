@@ -1,13 +1,15 @@
 //! What a SCSI-2 target with simple queue tags may do on the bus: its moves, what it shows, and, as definitions
-//! in `specs/`, the state of a target, its lawful moves, and what each call of the bus makes of it. The types
-//! that run are the moves and what is shown.
+//! in `specs/`, the state of a target, its lawful moves, and what each call of the bus makes of it, with laws. The
+//! types that run are the moves and what is shown.
 #![tactic(auto)]
 
+mod laws;
 mod moves;
 mod nexus;
 mod showing;
 mod stray;
 
+pub use laws::{begins_at_once, lies_by_rooms, rigs_stay, tags_stay_distinct};
 pub use moves::Move;
 pub use nexus::Nexus;
 pub use showing::{NamePart, Note, Showing, Verdict};

@@ -87,7 +87,7 @@ pub record ByRefusal (retries : ℕ) (r : PlainRequest) (v : View) (q : Report) 
 
 -- one Drop at h, or nothing but refusals, and then h is 0
 abbrev pub Lost : Tally → Type 0
-Lost k = (k.drops ≡ 1) ⊎ ((k.drops ≡ 0) × (k.looks ≡ 0) × (k.high ≡ 0))
+Lost k = (k.drops ≡ 1) ⊎ ((k.drops ≡ 0) × (k.looks ≡ 0) × (k.senses ≡ 0) × (k.high ≡ 0))
 
 -- Cut or Reset: the unit didn't answer
 pub record ByLoss (r : PlainRequest) (v : View) (q : Report) : Type 0 where
@@ -119,8 +119,10 @@ By Reset s r v h q = ByLoss r v q × (0 < h.clears)
 By NoTarget s r v h q = ByAbsence s r v q
 By Broken s r v h q = ⊥
 
--- all but the sentences on the sense
-pub record FitsLog (s : Setting) (r : PlainRequest) (v : View) (h : Course) (q : Report) : Type 0 where
+-- all but the sentences on the sense: the report is one of this ticket and of the unit that its request names
+pub record FitsLog (s : Setting) (t : ℕ) (r : PlainRequest) (v : View) (h : Course) (q : Report) : Type 0 where
+  pub ticket : q.ticket ≡ t
+  pub of_unit : q.unit ≡ r.unit
   pub by : By q.outcome s r v h q
   pub few_tries : q.tries ≤ s.retries + 1
   pub all_within : h.outside ≡ 0
@@ -147,8 +149,8 @@ pub record FitsSense (s : Setting) (v : View) (h : Course) (q : Report) : Type 0
   pub asked : AsksSense s v h → h.bus_reset ≡ false → v.tally.senses ≡ 1
 
 -- the report of a ticket of a unit that isn't rogue fits the unit's log
-abbrev pub Fits : Setting → PlainRequest → View → Course → Report → Type 0
-Fits s r v h q = s.rogue ≡ false → FitsLog s r v h q
+abbrev pub Fits : Setting → (t : ℕ) → PlainRequest → View → Course → Report → Type 0
+Fits s t r v h q = s.rogue ≡ false → FitsLog s t r v h q
 
 abbrev pub SenseFits : Setting → View → Course → Report → Type 0
 SenseFits s v h q = s.rogue ≡ false → FitsSense s v h q
