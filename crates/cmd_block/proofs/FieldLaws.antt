@@ -6,7 +6,8 @@ use Rattle.bench_words.specs.Memory.{word_at, put_word}
 use Rattle.bench_words.specs.Views.{Apart, Wrote}
 use Rattle.bench_words.proofs.MemoryLaws.{wrote-put_word}
 use Rattle.host_map.specs.Places.{IsBlockPlace}
-use Rattle.cmd_block.specs.Block.{IsField, offset, field_of, IsLayout}
+use Rattle.cmd_block.specs.Block.{IsField, offset, field_of, IsLayout, NamesOffsets}
+use Rattle.cmd_block.specs.Laws.{FieldsFit, FieldsApart}
 use Rattle.cmd_block.specs.declared.Field.{Field}
 use Rattle.cmd_block.specs.declared.Field.TheVariants.{Start, Restart, Lastp, Savep, State, Status, Sel, Gate, MsgCount, MsgAt, CmdCount, CmdAt, StatCount, StatAt, SegCount, SegAt, CtxCount, CtxAt, CtxReturn}
 
@@ -14,8 +15,22 @@ use Rattle.cmd_block.specs.declared.Field.TheVariants.{Start, Restart, Lastp, Sa
 pub is_layout : IsLayout
 is_layout = record { message = refl; command = refl; sense = refl; states = (refl, refl, refl, refl, refl) }
 
+pub names_offsets : NamesOffsets
+names_offsets =
+    record {
+      starts = (refl, refl);
+      pointers = (refl, refl);
+      state = refl;
+      sel = refl;
+      gate = refl;
+      entries = (refl, refl, refl);
+      segment = refl;
+      contexts = (refl, refl);
+      returns = (refl, refl);
+    }
+
 -- a field is an aligned word below the message bytes
-pub offset_fits : (f : Field) → IsField f → (offset f + 4 ≤ 0xE0) × (offset f % 4 ≡ 0)
+pub offset_fits : FieldsFit
 offset_fits Start h = (lit≤ tt, refl)
 offset_fits Restart h = (lit≤ tt, refl)
 offset_fits Lastp h = (lit≤ tt, refl)
@@ -105,6 +120,9 @@ fields_apart block f g hf hg n =
 
 pub blocks_apart : (a b : ℕ) (f g : Field) → IsBlockPlace a → IsBlockPlace b → a ≢ b → IsField f → IsField g → Apart (a + offset f) (b + offset g)
 blocks_apart a b f g ha hb n hf hg = omega (arith, ha.aligned, hb.aligned, (offset_fits f hf).0, (offset_fits g hg).0)
+
+pub all_apart : FieldsApart
+all_apart = record { one_block = fields_apart; two_blocks = blocks_apart }
 
 -- what a write of a field does to memory seen by words
 pub wrote-field : (m : List ℕ) (block w : ℕ) (f : Field) → length m ≡ 0x400000 → IsBlockPlace block → IsField f → w < 2 ^ 32 → Wrote (word_at m) (word_at (put_word m (block + offset f) w)) (block + offset f) w

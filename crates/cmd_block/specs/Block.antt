@@ -1,7 +1,8 @@
 -- The layout of a command block (own).
-use Rattle.std.specs.Prelude.{◌≡◌, ℕ, ◌+◌, ◌*◌, ◌<◌, List}
+use Rattle.std.specs.Prelude.{◌≡◌, ℕ, pos, ◌+◌, ◌*◌, ◌<◌, List}
 use Rattle.bench_words.specs.Memory.{word_at}
 use Rattle.cmd_block.specs.declared.TheConstants.{MESSAGE, CDB, SENSE, LIVE, ENDED, CUT, NO_TARGET, SWEPT}
+use Rattle.cmd_block.specs.declared.offsets.TheConstants as named
 use Rattle.cmd_block.specs.declared.Field.{Field}
 use Rattle.cmd_block.specs.declared.Field.TheVariants.{Start, Restart, Lastp, Savep, State, Status, Sel, Gate, MsgCount, MsgAt, CmdCount, CmdAt, StatCount, StatAt, SegCount, SegAt, CtxCount, CtxAt, CtxReturn}
 
@@ -46,3 +47,15 @@ pub record IsLayout : Type 0 where
   pub command : CDB ≡ 0xF0
   pub sense : SENSE ≡ 0x100
   pub states : (LIVE ≡ 0) × (ENDED ≡ 1) × (CUT ≡ 2) × (NO_TARGET ≡ 3) × (SWEPT ≡ 4)
+
+-- the offsets that have names are those of the fields
+pub record NamesOffsets : Type 0 where
+  pub starts : (named.START ≡ pos (offset Start)) × (named.RESTART ≡ pos (offset Restart))
+  pub pointers : (named.LASTP ≡ pos (offset Lastp)) × (named.SAVEP ≡ pos (offset Savep))
+  pub state : named.STATE ≡ pos (offset State)
+  pub sel : named.SEL ≡ pos (offset Sel)
+  pub gate : named.GATE ≡ pos (offset Gate)
+  pub entries : (named.MSG ≡ pos (offset MsgCount)) × (named.CMD ≡ pos (offset CmdCount)) × (named.STAT ≡ pos (offset StatCount))
+  pub segment : named.SEGMENT_0 ≡ pos (offset (SegCount 0))
+  pub contexts : (named.CONTEXT_0 ≡ pos (offset (CtxCount 0))) × (named.CONTEXT_1 ≡ pos (offset (CtxCount 1)))
+  pub returns : (named.RETURN_0 ≡ pos (offset (CtxReturn 0))) × (named.RETURN_1 ≡ pos (offset (CtxReturn 1)))

@@ -2,11 +2,16 @@
 #![tactic(auto)]
 
 ghost use Rattle.std.specs.Prelude.{◌≡◌, ◌+◌, length};
-ghost use Rattle.bench_words.specs.Memory.{put_word};
+ghost use Rattle.bench_words.specs.Memory.{word_at, put_word};
+ghost use Rattle.bench_words.specs.Views.{Wrote};
 ghost use Rattle.host_map.specs.Places.{IsBlockPlace};
 ghost use Rattle.cmd_block.specs.Block.{IsField, offset, field_of};
 
+mod laws;
+pub mod offsets;
+
 use bench_words::Words;
+pub use laws::{fields_lie_apart, is_layout};
 
 /// A word of a command block. A segment's number `j` is below 16, a context's below 2.
 #[derive(Clone, Copy, Debug, PartialEq, Eq)]
@@ -117,6 +122,7 @@ pub fn write(words: &mut Words, block: u32, field: Field, word: u32)
     requires place { IsBlockPlace block }
     requires field { IsField field }
     ensures wrote { words.new ≡ put_word words.old (block + offset field) word }
+    ensures words { Wrote (word_at words.old) (word_at words.new) (block + offset field) word }
     ensures size { length words.new ≡ length words.old }
 {
     words.set(block + field.offset(), word);

@@ -14,6 +14,7 @@ use Rattle.scripts_ops.specs.declared.values.Condition.TheVariants.{Always, Phas
 use Rattle.scripts_ops.specs.declared.values.Address.{Address}
 use Rattle.scripts_ops.specs.declared.values.Address.TheVariants.{At, FromDsa}
 use Rattle.driver_script.specs.declared.script.TheConstants.{SCRIPT}
+use Rattle.driver_script.specs.Laws.{KeepsScript}
 use Rattle.driver_script.specs.Script.{instruction, image, laid, IsLoaded}
 
 -- ---- a test of the rows that the script uses
@@ -214,6 +215,10 @@ loaded_spelled view k version w2 l h =
     let first : view (8 * k) ≡ image (2 * k) version = rw a at (l.at (2 * k) (omega arith)) in
     let second : view (8 * k + 4) ≡ image (2 * k + 1) version = rw b at (l.at (2 * k + 1) (omega arith)) in
     rw (first, second) (script_spelled k version w2)
+
+pub keeps_script : KeepsScript
+keeps_script old new version kept l =
+    record { at = λ n h. kept.at (4 * n) (record { from = omega arith; to = omega arith }) ∙ l.at n h }
 
 -- ---- laying it
 

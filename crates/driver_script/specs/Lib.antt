@@ -1,2 +1,4 @@
+pub mod Laws
+pub mod Moves
 pub mod Printed
 pub mod Script

@@ -11,12 +11,14 @@ ghost use Rattle.driver_script.specs.Printed.{printed_word};
 ghost use Rattle.driver_script.specs.Script.{IsVersion, instruction, image, laid, IsLoaded};
 
 mod labels;
+mod laws;
 mod script;
 #[cfg(test)]
 mod tests;
 
 use bench_words::Words;
 pub use labels::{Name, label};
+pub use laws::{data_moves, script_is_spelled};
 use script::SCRIPT;
 use scripts_ops::{Condition, Op, encode};
 

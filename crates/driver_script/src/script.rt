@@ -4,6 +4,7 @@ use crate::labels::{
     ABORTED, ALLMOVED, COMPLETE, CUT, DATA, DISPATCH, LEAVE, MSG, PUT, RESELECT, RESTORE, SAVE,
     START, STATUS, TAG,
 };
+use cmd_block::offsets;
 use host_map::{
     ABORT_TAG, BADTASK_ADDRESS, CHAINS, CUR, CUT_STATE, DONEP, ENDED_STATE, FRONT,
     FRONT_IDLE_ADDRESS, MSGIN, NO_TARGET_STATE, OPEN_ADDRESS, OVER_ADDRESS, RINGP,
@@ -37,6 +38,13 @@ const STATUS_PHASE: u8 = 3;
 const MSG_OUT: u8 = 6;
 
 const MSG_IN: u8 = 7;
+
+// Offsets in a slot of a ring, and of a tag's entry in its table.
+const SLOT_BLOCK: i32 = 0x00;
+
+const SLOT_LINK: i32 = 0x04;
+
+const ENTRY: i32 = 0x00;
 
 // Places inside the part that version 2 adds for tag tables.
 
@@ -95,6 +103,12 @@ macro_rules! move_from {
     };
 }
 
+macro_rules! move_segment {
+    ($number:expr, $phase:expr) => {
+        Op::MoveFrom { offset: offsets::SEGMENT_0 + 8 * $number, phase: $phase }
+    };
+}
+
 macro_rules! move_byte {
     ($address:expr, $phase:expr) => {
         Op::Move { count: 1, address: $address, phase: $phase }
@@ -140,13 +154,13 @@ pub static SCRIPT: [Op; 151] = [
         byte: 0x00,
     },
     load!(DSA, FRONT),
-    load_from!(TEMP, 0x00),
+    load_from!(TEMP, offsets::START),
     RETURN,
     // RING: goes where the block in the next start slot says. SCRATCHB has the slot behind it.
     load!(DSA, RINGP),
-    load_from!(SCRATCHB, 0x04),
-    load_from!(DSA, 0x00),
-    load_from!(TEMP, 0x00),
+    load_from!(SCRATCHB, SLOT_LINK),
+    load_from!(DSA, SLOT_BLOCK),
+    load_from!(TEMP, offsets::START),
     RETURN,
     // WAITR: nothing is to start.
     Op::WaitReselect { alternate: START },
@@ -159,14 +173,14 @@ pub static SCRIPT: [Op; 151] = [
     jump!(CHAINS),
     // SELECT: starts a command, passes its slot and opens its gate.
     Op::Select {
-        offset: 0x18,
+        offset: offsets::SEL,
         alternate: RESELECT,
     },
     store!(SCRATCHB, RINGP),
     load!(SCRATCHA, OPEN_ADDRESS),
-    store_from!(SCRATCHA, 0x1c),
-    move_from!(0x20, MSG_OUT),
-    move_from!(0x28, COMMAND),
+    store_from!(SCRATCHA, offsets::GATE),
+    move_from!(offsets::MSG, MSG_OUT),
+    move_from!(offsets::CMD, COMMAND),
     // DISPATCH: does what the target asks for.
     jump_when!(MSG_IN, MSG),
     jump_if_phase!(STATUS_PHASE, STATUS),
@@ -174,10 +188,10 @@ pub static SCRIPT: [Op; 151] = [
     jump_if_phase!(DATA_OUT, DATA),
     int!(1),
     // DATA: goes to the move that the active pointer names.
-    load_from!(TEMP, 0x08),
+    load_from!(TEMP, offsets::LASTP),
     RETURN,
     // STATUS
-    move_from!(0x30, STATUS_PHASE),
+    move_from!(offsets::STAT, STATUS_PHASE),
     jump!(DISPATCH),
     // MSG
     move_byte!(MSGIN, MSG_IN),
@@ -187,13 +201,13 @@ pub static SCRIPT: [Op; 151] = [
     jump_if_byte!(0x04, 0x00, LEAVE),
     int!(2),
     // SAVE: the saved pointer becomes the active one.
-    load_from!(SCRATCHA, 0x08),
-    store_from!(SCRATCHA, 0x0c),
+    load_from!(SCRATCHA, offsets::LASTP),
+    store_from!(SCRATCHA, offsets::SAVEP),
     CLEAR_ACK,
     jump!(DISPATCH),
     // RESTORE: the active pointer becomes the saved one.
-    load_from!(SCRATCHA, 0x0c),
-    store_from!(SCRATCHA, 0x08),
+    load_from!(SCRATCHA, offsets::SAVEP),
+    store_from!(SCRATCHA, offsets::LASTP),
     CLEAR_ACK,
     jump!(DISPATCH),
     // LEAVE: the target disconnects.
@@ -219,11 +233,11 @@ pub static SCRIPT: [Op; 151] = [
         byte: 0x00,
         register: DSA,
     },
-    load_from!(DSA, 0x00),
-    load_from!(TEMP, 0x1c),
+    load_from!(DSA, ENTRY),
+    load_from!(TEMP, offsets::GATE),
     RETURN,
     // OPEN
-    load_from!(TEMP, 0x04),
+    load_from!(TEMP, offsets::RESTART),
     RETURN,
     // BADTASK
     int!(4),
@@ -245,14 +259,14 @@ pub static SCRIPT: [Op; 151] = [
     store!(SCRATCHB, RINGP),
     load!(SCRATCHA, NO_TARGET_STATE),
     // PUT: sets STATE, shuts the gate and enters the block into the done ring.
-    store_from!(SCRATCHA, 0x10),
+    store_from!(SCRATCHA, offsets::STATE),
     load!(SCRATCHA, BADTASK_ADDRESS),
-    store_from!(SCRATCHA, 0x1c),
+    store_from!(SCRATCHA, offsets::GATE),
     store!(DSA, CUR),
     load!(SCRATCHA, CUR),
     load!(DSA, DONEP),
-    store_from!(SCRATCHA, 0x00),
-    load_from!(SCRATCHB, 0x04),
+    store_from!(SCRATCHA, SLOT_BLOCK),
+    load_from!(SCRATCHB, SLOT_LINK),
     store!(SCRATCHB, DONEP),
     Op::IntFly {
         on: Condition::Always,
@@ -269,71 +283,71 @@ pub static SCRIPT: [Op; 151] = [
     jump!(ABORTED),
     // RESETJOB: sends the message of the reset job.
     Op::Select {
-        offset: 0x18,
+        offset: offsets::SEL,
         alternate: RESELECT,
     },
-    move_from!(0x20, MSG_OUT),
+    move_from!(offsets::MSG, MSG_OUT),
     Op::WaitDisconnect,
     int!(5),
     // OVER: the target wants more data than there is.
     int!(6),
     // DATAIN: segment by segment.
-    move_from!(0x40, DATA_IN),
-    move_from!(0x48, DATA_IN),
-    move_from!(0x50, DATA_IN),
-    move_from!(0x58, DATA_IN),
-    move_from!(0x60, DATA_IN),
-    move_from!(0x68, DATA_IN),
-    move_from!(0x70, DATA_IN),
-    move_from!(0x78, DATA_IN),
-    move_from!(0x80, DATA_IN),
-    move_from!(0x88, DATA_IN),
-    move_from!(0x90, DATA_IN),
-    move_from!(0x98, DATA_IN),
-    move_from!(0xa0, DATA_IN),
-    move_from!(0xa8, DATA_IN),
-    move_from!(0xb0, DATA_IN),
-    move_from!(0xb8, DATA_IN),
+    move_segment!(0, DATA_IN),
+    move_segment!(1, DATA_IN),
+    move_segment!(2, DATA_IN),
+    move_segment!(3, DATA_IN),
+    move_segment!(4, DATA_IN),
+    move_segment!(5, DATA_IN),
+    move_segment!(6, DATA_IN),
+    move_segment!(7, DATA_IN),
+    move_segment!(8, DATA_IN),
+    move_segment!(9, DATA_IN),
+    move_segment!(10, DATA_IN),
+    move_segment!(11, DATA_IN),
+    move_segment!(12, DATA_IN),
+    move_segment!(13, DATA_IN),
+    move_segment!(14, DATA_IN),
+    move_segment!(15, DATA_IN),
     // INDONE: all segments were read.
     jump!(ALLMOVED),
     // DATAOUT
-    move_from!(0x40, DATA_OUT),
-    move_from!(0x48, DATA_OUT),
-    move_from!(0x50, DATA_OUT),
-    move_from!(0x58, DATA_OUT),
-    move_from!(0x60, DATA_OUT),
-    move_from!(0x68, DATA_OUT),
-    move_from!(0x70, DATA_OUT),
-    move_from!(0x78, DATA_OUT),
-    move_from!(0x80, DATA_OUT),
-    move_from!(0x88, DATA_OUT),
-    move_from!(0x90, DATA_OUT),
-    move_from!(0x98, DATA_OUT),
-    move_from!(0xa0, DATA_OUT),
-    move_from!(0xa8, DATA_OUT),
-    move_from!(0xb0, DATA_OUT),
-    move_from!(0xb8, DATA_OUT),
+    move_segment!(0, DATA_OUT),
+    move_segment!(1, DATA_OUT),
+    move_segment!(2, DATA_OUT),
+    move_segment!(3, DATA_OUT),
+    move_segment!(4, DATA_OUT),
+    move_segment!(5, DATA_OUT),
+    move_segment!(6, DATA_OUT),
+    move_segment!(7, DATA_OUT),
+    move_segment!(8, DATA_OUT),
+    move_segment!(9, DATA_OUT),
+    move_segment!(10, DATA_OUT),
+    move_segment!(11, DATA_OUT),
+    move_segment!(12, DATA_OUT),
+    move_segment!(13, DATA_OUT),
+    move_segment!(14, DATA_OUT),
+    move_segment!(15, DATA_OUT),
     // ALLMOVED: no data is left; the active pointer says so.
     load!(SCRATCHA, OVER_ADDRESS),
-    store_from!(SCRATCHA, 0x08),
+    store_from!(SCRATCHA, offsets::LASTP),
     jump!(DISPATCH),
     // PMIN0, PMIN1: the rest of a move in that was broken off, then what was behind it.
-    move_from!(0xc0, DATA_IN),
-    load_from!(TEMP, 0xc8),
+    move_from!(offsets::CONTEXT_0, DATA_IN),
+    load_from!(TEMP, offsets::RETURN_0),
     RETURN,
-    move_from!(0xd0, DATA_IN),
-    load_from!(TEMP, 0xd8),
+    move_from!(offsets::CONTEXT_1, DATA_IN),
+    load_from!(TEMP, offsets::RETURN_1),
     RETURN,
     // PMOUT0, PMOUT1: the same for a move out.
-    move_from!(0xc0, DATA_OUT),
-    load_from!(TEMP, 0xc8),
+    move_from!(offsets::CONTEXT_0, DATA_OUT),
+    load_from!(TEMP, offsets::RETURN_0),
     RETURN,
-    move_from!(0xd0, DATA_OUT),
-    load_from!(TEMP, 0xd8),
+    move_from!(offsets::CONTEXT_1, DATA_OUT),
+    load_from!(TEMP, offsets::RETURN_1),
     RETURN,
     // SENSE: starts a REQUEST SENSE from FRONT, which becomes idle.
     Op::Select {
-        offset: 0x18,
+        offset: offsets::SEL,
         alternate: RESELECT,
     },
     load!(SCRATCHA, FRONT_IDLE_ADDRESS),

@@ -1,9 +1,10 @@
 -- Places lie in their regions, and words of two regions share no byte.
-use Rattle.std.proofs.Common.{◌≡◌, ◌≢◌, ℕ, zero, suc, ◌+◌, ◌-◌, ◌/◌, ◌%◌, ◌<◌, ◌≤◌, ◌⊎◌, inl, inr, List, [], ◌∷◌, get_or, refl, sym, ap, ◌∙◌, arith, lit<, lit≤}
+use Rattle.std.proofs.Common.{◌≡◌, ◌≢◌, ℕ, zero, suc, ◌+◌, ◌-◌, ◌<◌, ◌≤◌, ◌⊎◌, inl, inr, List, [], ◌∷◌, get_or, refl, sym, ap, ◌∙◌, arith, lit<, lit≤}
 use Rattle.std.proofs.lemmas.Bool.{cases_order}
 use Rattle.bench_words.specs.Views.{Apart}
 use Rattle.host_map.specs.Map.{IsMap}
-use Rattle.host_map.specs.Places.{block_at, start_slot, done_slot, tag_entry, IsCommandBlock, IsBlockPlace}
+use Rattle.host_map.specs.Laws.{LieInRegions, RegionsApart, PlacesApart, NumbersBlocks, PlacesFit}
+use Rattle.host_map.specs.Places.{tag_entry}
 use Rattle.host_map.specs.Regions.{Region, Script, Control, FixedBlocks, StartRing, DoneRing, TagTables, Chains, CommandBlocks, Buffers, first, behind, IsWordOf}
 
 -- the constants of the code are those of the map
@@ -33,7 +34,7 @@ is_map =
 -- ---- regions
 
 -- the regions in the order of their addresses
-abbrev number : Region → ℕ
+abbrev pub number : Region → ℕ
 number Script = 0
 number Control = 1
 number FixedBlocks = 2
@@ -105,7 +106,7 @@ rises_on (suc k) m h =
     rw e (omega arith)
 
 -- the later of two regions begins behind the other
-before : (r s : Region) → number r < number s → behind r ≤ first s
+pub before : (r s : Region) → number r < number s → behind r ≤ first s
 before r s h =
     let e : suc (number r) + (number s - suc (number r)) ≡ number s = omega arith in
     let up : begin (suc (number r)) ≤ begin (number s) =
@@ -134,7 +135,7 @@ again Chains = refl
 again CommandBlocks = refl
 again Buffers = refl
 
-same_number : (r s : Region) → number r ≡ number s → r ≡ s
+pub same_number : (r s : Region) → number r ≡ number s → r ≡ s
 same_number r s e = sym (again r) ∙ (ap region_of_number e ∙ again s)
 
 apart_by : (r s : Region) (a b : ℕ) → (number r ≡ number s) ⊎ ((number r < number s) ⊎ (number s < number r)) → r ≢ s → IsWordOf r a → IsWordOf s b → Apart a b
@@ -143,48 +144,56 @@ apart_by r s a b (inr (inl h)) n wa wb = omega (arith, before r s h, wa.to, wb.f
 apart_by r s a b (inr (inr h)) n wa wb = omega (arith, before s r h, wb.to, wa.from)
 
 -- words of two regions share no byte
-pub regions_apart : (r s : Region) (a b : ℕ) → r ≢ s → IsWordOf r a → IsWordOf s b → Apart a b
+pub regions_apart : RegionsApart
 regions_apart r s a b n wa wb = apart_by r s a b (cases_order (number r) (number s)) n wa wb
 
 -- ---- places
 
-pub command_block-at : (b : ℕ) → b < 256 → IsCommandBlock (block_at b)
-command_block-at b h = record { from = omega arith; below = omega arith; aligned = omega arith }
+pub numbers_blocks : NumbersBlocks
+numbers_blocks =
+    record {
+      is_block = λ b h. record { from = omega arith; below = omega arith; aligned = omega arith };
+      is_place = λ a h. record { from = omega (arith, h.from); gap = inr h.from; below = h.below; aligned = h.aligned };
+      number = λ b. omega arith;
+      address = λ a h. omega (arith, h.from, h.aligned);
+    }
 
-pub place_of_command : (a : ℕ) → IsCommandBlock a → IsBlockPlace a
-place_of_command a h = record { from = omega (arith, h.from); gap = inr h.from; below = h.below; aligned = h.aligned }
+pub places_fit : PlacesFit
+places_fit a h = (omega (arith, h.below), omega (arith, h.aligned))
 
-pub block_number : (a : ℕ) → IsCommandBlock a → a ≡ block_at ((a - 0x10000) / 0x200)
-block_number a h = omega (arith, h.from, h.aligned)
+-- the words of places lie in their regions
+pub lie_in_regions : LieInRegions
+lie_in_regions =
+    record {
+      fixed_block = λ a i h low k. record { from = omega (arith, h.from); to = omega arith };
+      command_block = λ a i h k. record { from = omega (arith, h.from); to = omega (arith, h.below, h.aligned) };
+      start_slot = λ n i k. record { from = omega arith; to = omega arith };
+      done_slot = λ n i k. record { from = omega arith; to = omega arith };
+      tag_entry = λ u g h k. record { from = omega arith; to = omega arith };
+      target_chain = λ t i h k. record { from = omega arith; to = omega arith };
+      unit_chain = λ u i h k. record { from = omega arith; to = omega arith };
+      chunk = λ c i h k. record { from = omega arith; to = omega arith };
+    }
 
--- all words of a block place are words of memory, and those of two block places share no byte
-pub place_fits : (a : ℕ) → IsBlockPlace a → (a + 0x200 ≤ 0x400000) × (a % 4 ≡ 0)
-place_fits a h = (omega (arith, h.below), omega (arith, h.aligned))
-
-pub places_apart : (a b i j : ℕ) → IsBlockPlace a → IsBlockPlace b → a ≢ b → i + 4 ≤ 0x200 → j + 4 ≤ 0x200 → Apart (a + i) (b + j)
-places_apart a b i j ha hb n hi hj = omega (arith, ha.aligned, hb.aligned)
-
-pub word_of_command : (a i : ℕ) → IsCommandBlock a → i + 4 ≤ 0x200 → IsWordOf CommandBlocks (a + i)
-word_of_command a i h k = record { from = omega (arith, h.from); to = omega (arith, h.below, h.aligned) }
-
-pub word_of_start_slot : (n i : ℕ) → i + 4 ≤ 8 → IsWordOf StartRing (start_slot n + i)
-word_of_start_slot n i h = record { from = omega arith; to = omega arith }
-
-pub word_of_done_slot : (n i : ℕ) → i + 4 ≤ 8 → IsWordOf DoneRing (done_slot n + i)
-word_of_done_slot n i h = record { from = omega arith; to = omega arith }
-
-pub word_of_tag_entry : (u g : ℕ) → u < 16 → g < 256 → IsWordOf TagTables (tag_entry u g)
-word_of_tag_entry u g h k = record { from = omega arith; to = omega arith }
-
--- two slots of a ring that fewer than 512 uses lie between share no byte, nor do the entries of two tags or units
-pub start_slots_apart : (n m i j : ℕ) → n < m → m < n + 512 → i + 4 ≤ 8 → j + 4 ≤ 8 → Apart (start_slot n + i) (start_slot m + j)
-start_slots_apart n m i j a b hi hj = omega arith
-
-pub done_slots_apart : (n m i j : ℕ) → n < m → m < n + 512 → i + 4 ≤ 8 → j + 4 ≤ 8 → Apart (done_slot n + i) (done_slot m + j)
-done_slots_apart n m i j a b hi hj = omega arith
-
+-- and share no byte
 pub tag_entries_apart : (u v g k : ℕ) → g < 256 → k < 256 → g ≢ k → Apart (tag_entry u g) (tag_entry v k)
 tag_entries_apart u v g k hg hk n = omega arith
 
 pub units_apart : (u v g k : ℕ) → g < 256 → k < 256 → u ≢ v → Apart (tag_entry u g) (tag_entry v k)
 units_apart u v g k hg hk n = omega arith
+
+entries_apart : (u v g k : ℕ) → g < 256 → k < 256 → (u ≢ v) ⊎ (g ≢ k) → Apart (tag_entry u g) (tag_entry v k)
+entries_apart u v g k hg hk (inl n) = units_apart u v g k hg hk n
+entries_apart u v g k hg hk (inr n) = tag_entries_apart u v g k hg hk n
+
+pub places_apart : PlacesApart
+places_apart =
+    record {
+      blocks = λ a b i j ha hb n hi hj. omega (arith, ha.aligned, hb.aligned);
+      start_slots = λ n m i j l u hi hj. omega arith;
+      done_slots = λ n m i j l u hi hj. omega arith;
+      tag_entries = entries_apart;
+      target_chains = λ s t i j n hi hj. omega arith;
+      unit_chains = λ u v i j n hi hj. omega arith;
+      chunks = λ c d i j n hi hj. omega arith;
+    }

@@ -5,6 +5,10 @@
 ghost use Rattle.std.specs.Prelude.{◌≡◌, ◌<◌, ◌↔◌, IsTrue};
 ghost use Rattle.host_map.specs.Places.{block_at, tag_entry, IsCommandBlock, IsBlockPlace};
 
+mod laws;
+
+pub use laws::{blocks_are_numbered, is_map, places_lie_apart, regions_stay, writes_compose};
+
 /// The size of host memory in bytes, 4 MiB.
 pub const MEMORY_BYTES: u32 = 0x40_0000;
 /// The size of host memory in words of 32 bits.

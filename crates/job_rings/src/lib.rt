@@ -7,11 +7,15 @@
 
 ghost use Rattle.std.specs.Prelude.{◌≡◌, ◌≢◌, ◌≤◌, length, MatchOption};
 ghost use Rattle.bench_words.specs.Memory.{word_at, put_word};
+ghost use Rattle.bench_words.specs.Views.{Wrote};
 ghost use Rattle.host_map.specs.declared.TheConstants.{IDLE, START_RING, DONE_RING};
-ghost use Rattle.job_rings.specs.Rings.{IsSlot, next_slot, started};
+ghost use Rattle.job_rings.specs.Rings.{IsSlot, next_slot, started, Started};
+
+mod laws;
 
 use bench_words::Words;
 use host_map::{DONE_RING, IDLE, SLOTS, START_RING};
+pub use laws::{slots_are_counted, starts_stay_in_ring};
 
 /// The bytes of a slot.
 const SLOT_BYTES: u32 = 8;
@@ -34,6 +38,7 @@ pub fn put_start(words: &mut Words, slot: u32, block: u32) -> u32
     requires memory { length words.old ≡ 0x400000 }
     requires slot { IsSlot START_RING slot }
     ensures wrote { words.new ≡ started words.old slot block }
+    ensures words { Started (word_at words.old) (word_at words.new) slot block }
     ensures size { length words.new ≡ length words.old }
     ensures next { result ≡ next_slot START_RING slot }
 {
@@ -58,6 +63,7 @@ pub fn clear_done(words: &mut Words, slot: u32) -> u32
     requires memory { length words.old ≡ 0x400000 }
     requires slot { IsSlot DONE_RING slot }
     ensures wrote { words.new ≡ put_word words.old slot IDLE }
+    ensures words { Wrote (word_at words.old) (word_at words.new) slot IDLE }
     ensures size { length words.new ≡ length words.old }
     ensures next { result ≡ next_slot DONE_RING slot }
 {

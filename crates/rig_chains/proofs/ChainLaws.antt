@@ -1,5 +1,5 @@
 -- What memory reads after the chains were laid: every instruction at its address, and all else as before.
-use Rattle.std.proofs.Common.{◌≡◌, ◌++◌, ℕ, zero, suc, ◌+◌, ◌*◌, ◌^◌, ◌<◌, ◌≤◌, ◌⊎◌, inl, inr, Bool, true, false, cond, Option, Some, None, List, [], ◌∷◌, length, get_or, map, filter, position, nat_lt, refl, ◌∙◌, arith, lit<, lit≤, length-append}
+use Rattle.std.proofs.Common.{◌≡◌, ◌++◌, ℕ, zero, suc, ◌+◌, ◌*◌, ◌%◌, ◌^◌, ◌<◌, ◌≤◌, ◌⊎◌, inl, inr, Bool, true, false, cond, Option, Some, None, List, [], ◌∷◌, length, get_or, map, filter, position, nat_lt, refl, ◌∙◌, arith, lit<, lit≤, length-append}
 use Rattle.std.specs.Prelude.{IfSome}
 use Rattle.std.specs.List.{All, cons_option, filter_map, position_or_len, range_with_len}
 use Rattle.std.specs.Option.{option_map}
@@ -101,11 +101,11 @@ put_ops-spells m a ops ps fits =
     }
 
 -- and still does where its words are as before
-pub spells_kept : (v w : ℕ → ℕ) (a : ℕ) (ops : List Op) → Spells v a ops → ((x : ℕ) → a ≤ x → x + 4 ≤ a + 8 * length ops → w x ≡ v x) → Spells w a ops
-spells_kept v w a ops s same =
+pub spells_kept : (v w : ℕ → ℕ) (a : ℕ) (ops : List Op) → a % 4 ≡ 0 → Spells v a ops → ((x : ℕ) → x % 4 ≡ 0 → a ≤ x → x + 4 ≤ a + 8 * length ops → w x ≡ v x) → Spells w a ops
+spells_kept v w a ops aligned s same =
     record {
       at = λ k w2 h.
-          rw (same (a + 8 * k) (omega arith) (omega arith), same (a + 8 * k + 4) (omega arith) (omega arith)) (s.at k w2 h);
+          rw (same (a + 8 * k) (omega arith) (omega arith) (omega arith), same (a + 8 * k + 4) (omega arith) (omega arith) (omega arith)) (s.at k w2 h);
     }
 
 -- ---- the instructions of the chains are plain
@@ -122,14 +122,14 @@ range-below a zero b h = All-nil (λ x. x < b)
 range-below a (suc n) b h =
     All-cons (λ x. x < b) a (range_with_len (a + 1) n) (omega arith) (range-below (a + 1) n b (omega arith))
 
-targets-below : (us : List RigUnit) → All (λ t. t < 7) (targets us)
-targets-below us = rw (targets-is us) (All-filter (has_target us) (λ t. t < 7) (range_with_len 0 7) (range-below 0 7 7 (omega arith)))
+targets-below : (us : List RigUnit) → All (λ t. t < 8) (targets us)
+targets-below us = rw (targets-is us) (All-filter (has_target us) (λ t. t < 8) (range_with_len 0 8) (range-below 0 8 8 (omega arith)))
 
 pub target_ops-plain : (us : List RigUnit) → All IsPlain (target_ops us)
 target_ops-plain us =
     All-append IsPlain (map (λ (t : ℕ). jump_if t (target_chain t)) (targets us)) (Int Always 0x0A ∷ [])
     (All-map IsPlain (λ (t : ℕ). jump_if t (target_chain t)) (targets us) (λ k d h.
-    let below : get_or (targets us) k d < 7 = targets-below us k d h in jump_if-plain (get_or (targets us) k d) (target_chain (get_or (targets us) k d)) (omega arith) (omega arith)))
+    let below : get_or (targets us) k d < 8 = targets-below us k d h in jump_if-plain (get_or (targets us) k d) (target_chain (get_or (targets us) k d)) (omega arith) (omega arith)))
     (All-cons IsPlain (Int Always 0x0A) [] (stop-plain 0x0A (lit< tt)) (All-nil IsPlain))
 
 cons_option-all : {Y : Type 0} (P : Y → Type 0) (o : Option Y) (ys : List Y) → IfSome o P → All P ys → All P (cons_option o ys)
@@ -203,10 +203,10 @@ filter-most : {X : Type 0} (p : X → Bool) (xs : List X) → length (filter p x
 filter-most p [] = omega arith
 filter-most p (x ∷ xs) = omega (arith, cond-most (p x) x (filter p xs), filter-most p xs)
 
-pub target_ops-most : (us : List RigUnit) → length (target_ops us) ≤ 8
+pub target_ops-most : (us : List RigUnit) → length (target_ops us) ≤ 9
 target_ops-most us =
     let jumps = map (λ (t : ℕ). jump_if t (target_chain t)) (targets us) in
-    let few : length (targets us) ≤ 7 = rw (targets-is us) (omega (arith, filter-most (has_target us) (range_with_len 0 7), length-range_with_len 0 7)) in
+    let few : length (targets us) ≤ 8 = rw (targets-is us) (omega (arith, filter-most (has_target us) (range_with_len 0 8), length-range_with_len 0 8)) in
     omega (arith, length-append jumps (Int Always 0x0A ∷ []), length-map (targets us) (λ (t : ℕ). jump_if t (target_chain t)))
 
 pub lun_ops-most : (us : List RigUnit) (target : ℕ) → length (lun_ops us target) ≤ 12

@@ -1,35 +1,22 @@
 -- The chains lead to each unit of a rig: by its target to the chain of the target, and by its LUN to its own.
-use Rattle.std.proofs.Common.{◌≡◌, ◌≢◌, ◌++◌, ℕ, zero, suc, ◌+◌, ◌-◌, ◌%◌, ◌<◌, ◌≤◌, ◌⊎◌, inl, inr, Bool, true, false, not, nat_eq, nat_lt, ◌&&◌, cond, Option, Some, None, List, [], ◌∷◌, length, get_or, map, filter, position, refl, ap, ◌∙◌, arith}
+use Rattle.std.proofs.Common.{◌≡◌, ◌≢◌, ◌++◌, ℕ, zero, suc, ◌+◌, ◌%◌, ◌<◌, ◌≤◌, ◌⊎◌, inl, inr, Bool, true, false, not, nat_eq, nat_lt, ◌&&◌, cond, Option, Some, None, List, [], ◌∷◌, length, get_or, map, filter, position, refl, ap, ◌∙◌, arith}
 use Rattle.std.specs.Prelude.{bit_and}
-use Rattle.std.specs.List.{AllPairs, cons_option, filter_map, position_or_len, range_with_len}
+use Rattle.std.specs.List.{All, cons_option, filter_map, position_or_len, range_with_len}
 use Rattle.std.specs.Option.{option_map}
 use Rattle.std.proofs.lemmas.Bool.{cases_order}
 use Rattle.std.proofs.lemmas.Bool.Decides.{nat_tests}
+use Rattle.std.proofs.lemmas.List.Elements.{All-head, All-tail}
 use Rattle.std.proofs.lemmas.List.Sums.{prefix_len_is}
 use Rattle.std.proofs.lemmas.Nat.{and_mask}
 use Rattle.scripts_ops.specs.declared.values.Op.{Op}
-use Rattle.scripts_ops.specs.declared.values.Op.TheVariants.{Jump, Int}
-use Rattle.scripts_ops.specs.declared.values.Condition.{Condition}
-use Rattle.scripts_ops.specs.declared.values.Condition.TheVariants.{Always, Phase, Byte}
+use Rattle.scripts_ops.specs.declared.values.Op.TheVariants.{Int}
+use Rattle.scripts_ops.specs.declared.values.Condition.TheVariants.{Always}
 use Rattle.host_map.specs.Places.{target_chain, unit_chain}
-use Rattle.rig_types.specs.Ranges.{Agree}
+use Rattle.rig_types.specs.Ranges.{IsUnit}
 use Rattle.rig_types.specs.declared.rig.Unit.{Unit as RigUnit}
-use Rattle.rig_chains.specs.Chains.{has_target, is_at, jump_if, target_ops, lun_jump, lun_jumps}
+use Rattle.rig_chains.specs.Chains.{has_target, is_at, jump_if, lun_jump}
+use Rattle.rig_chains.specs.Finding.{Exit, GoesTo, StopsWith, leads, unit_exit, FindsTargets, LeavesOutSeven, FindsLuns, FindsItself}
 use Rattle.rig_chains.proofs.Laying.{targets-is, lun_jumps-is}
-
--- whether a condition on SFBR holds with this byte in it: bits that are set in the mask don't count
-abbrev pub takes : Condition → ℕ → Bool
-takes Always byte = true
-takes (Phase when negated code) byte = false
-takes (Byte false mask value) byte = nat_eq (bit_and byte (255 - mask)) value
-takes (Byte true mask value) byte = not (nat_eq (bit_and byte (255 - mask)) value)
-
--- where jumps one behind the other lead with a byte in SFBR: the first one that takes it counts; nowhere, where another
--- instruction comes before
-abbrev pub leads : List Op → ℕ → Option ℕ
-leads [] byte = None
-leads (Jump on address ∷ ops) byte = cond (takes on byte) (Some address) (leads ops byte)
-leads (op ∷ ops) byte = None
 
 -- ---- a run of jumps at rising numbers
 
@@ -40,8 +27,10 @@ jump_to place n = option_map (λ (a : ℕ). jump_if n a) (place n)
 abbrev run : (ℕ → Option ℕ) → List ℕ → ℕ → List Op
 run place ns vector = filter_map (jump_to place) ns ++ Int Always vector ∷ []
 
-one_more : Option ℕ → ℕ → ℕ → List Op → Option ℕ
-one_more o n byte ops = leads (cons_option (option_map (λ (a : ℕ). jump_if n a) o) ops) byte
+-- where it leads
+abbrev exit : Option ℕ → ℕ → Exit
+exit (Some a) vector = GoesTo a
+exit None vector = StopsWith vector
 
 same_byte : (byte : ℕ) → byte < 256 → bit_and byte 255 ≡ byte
 same_byte byte h = let e : bit_and byte 255 ≡ byte % 256 = and_mask byte 8 in omega (arith, e)
@@ -51,9 +40,9 @@ not_taken None n byte ops h d = refl
 not_taken (Some a) n byte ops h d =
     let e : nat_eq (bit_and byte 255) n ≡ false = rw (same_byte byte h) (grind (arith, nat_tests)) in rw e refl
 
-taken : (o : Option ℕ) (n : ℕ) (ops : List Op) → n < 256 → leads ops n ≡ None → leads (cons_option (option_map (λ (a : ℕ). jump_if n a) o) ops) n ≡ o
-taken None n ops h none = none
-taken (Some a) n ops h none =
+taken : (o : Option ℕ) (n vector : ℕ) (ops : List Op) → n < 256 → leads ops n ≡ Some (StopsWith vector) → leads (cons_option (option_map (λ (a : ℕ). jump_if n a) o) ops) n ≡ Some (exit o vector)
+taken None n vector ops h stops = stops
+taken (Some a) n vector ops h stops =
     let e : nat_eq (bit_and n 255) n ≡ true = rw (same_byte n h) (grind (arith, nat_tests)) in rw e refl
 
 cons_option-append : {X : Type 0} (o : Option X) (xs ys : List X) → cons_option o xs ++ ys ≡ cons_option o (xs ++ ys)
@@ -64,7 +53,7 @@ cons_option-append (Some x) xs ys = refl
 run_more : (place : ℕ → Option ℕ) (n : ℕ) (ns : List ℕ) (vector : ℕ) → run place (n ∷ ns) vector ≡ cons_option (jump_to place n) (run place ns vector)
 run_more place n ns vector = cons_option-append (jump_to place n) (filter_map (jump_to place) ns) (Int Always vector ∷ [])
 
-run_misses : (place : ℕ → Option ℕ) (low n vector byte : ℕ) → byte < 256 → byte < low → leads (run place (range_with_len low n) vector) byte ≡ None
+run_misses : (place : ℕ → Option ℕ) (low n vector byte : ℕ) → byte < 256 → byte < low → leads (run place (range_with_len low n) vector) byte ≡ Some (StopsWith vector)
 run_misses place low zero vector byte h less = refl
 run_misses place low (suc n) vector byte h less =
     let other : byte ≢ low = omega arith in
@@ -72,15 +61,15 @@ run_misses place low (suc n) vector byte h less =
     ∙ not_taken (place low) low byte (run place (range_with_len (low + 1) n) vector) h other
     ∙ run_misses place (low + 1) n vector byte h (omega arith)
 
-first_or_later : (place : ℕ → Option ℕ) (low n vector byte : ℕ) → byte < 256 → (low ≡ byte) ⊎ ((low < byte) ⊎ (byte < low)) → low ≤ byte → (low < byte → leads (run place (range_with_len (low + 1) n) vector) byte ≡ place byte) → leads (cons_option (jump_to place low) (run place (range_with_len (low + 1) n) vector)) byte ≡ place byte
+first_or_later : (place : ℕ → Option ℕ) (low n vector byte : ℕ) → byte < 256 → (low ≡ byte) ⊎ ((low < byte) ⊎ (byte < low)) → low ≤ byte → (low < byte → leads (run place (range_with_len (low + 1) n) vector) byte ≡ Some (exit (place byte) vector)) → leads (cons_option (jump_to place low) (run place (range_with_len (low + 1) n) vector)) byte ≡ Some (exit (place byte) vector)
 first_or_later place low n vector byte h (inl e) le later =
-    rw (← e) (taken (place low) low (run place (range_with_len (low + 1) n) vector) (omega arith) (run_misses place (low + 1) n vector low (omega arith) (omega arith)))
+    rw (← e) (taken (place low) low vector (run place (range_with_len (low + 1) n) vector) (omega arith) (run_misses place (low + 1) n vector low (omega arith) (omega arith)))
 first_or_later place low n vector byte h (inr (inl l)) le later =
     let other : byte ≢ low = omega arith in
     not_taken (place low) low byte (run place (range_with_len (low + 1) n) vector) h other ∙ later l
 first_or_later place low n vector byte h (inr (inr l)) le later = absurd (omega arith)
 
-run_leads : (place : ℕ → Option ℕ) (low n vector byte : ℕ) → byte < 256 → low ≤ byte → byte < low + n → leads (run place (range_with_len low n) vector) byte ≡ place byte
+run_leads : (place : ℕ → Option ℕ) (low n vector byte : ℕ) → byte < 256 → low ≤ byte → byte < low + n → leads (run place (range_with_len low n) vector) byte ≡ Some (exit (place byte) vector)
 run_leads place low zero vector byte h from below = absurd (omega arith)
 run_leads place low (suc n) vector byte h from below =
     ap (λ (ops : List Op). leads ops byte) (run_more place low (range_with_len (low + 1) n) vector)
@@ -102,13 +91,29 @@ map-filter us (t ∷ ts) =
     map-cond (has_target us t) t (filter (has_target us) ts)
     ∙ ap (λ (ops : List Op). cons_option (jump_to (target_place us) t) ops) (map-filter us ts)
 
--- with a target of the rig in SFBR the chain leads to the chain of the target, and with another one to its stop
-pub finds_target : (us : List RigUnit) (t : ℕ) → t < 7 → leads (target_ops us) t ≡ cond (has_target us t) (Some (target_chain t)) None
+target_end : (b : Bool) (t : ℕ) → exit (cond b (Some (target_chain t)) None) 0x0A ≡ cond b (GoesTo (target_chain t)) (StopsWith 0x0A)
+target_end true t = refl
+target_end false t = refl
+
+pub finds_targets : FindsTargets
 unfolding target_place
-finds_target us t h =
+finds_targets us t h =
     ap (λ (ts : List ℕ). leads (map (λ (t : ℕ). jump_if t (target_chain t)) ts ++ Int Always 0x0A ∷ []) t) (targets-is us)
-    ∙ ap (λ (ops : List Op). leads (ops ++ Int Always 0x0A ∷ []) t) (map-filter us (range_with_len 0 7))
-    ∙ run_leads (target_place us) 0 7 0x0A t (omega arith) (omega arith) (omega arith)
+    ∙ ap (λ (ops : List Op). leads (ops ++ Int Always 0x0A ∷ []) t) (map-filter us (range_with_len 0 8))
+    ∙ run_leads (target_place us) 0 8 0x0A t (omega arith) (omega arith) (omega arith)
+    ∙ ap Some (target_end (has_target us t) t)
+
+-- a rig has no target 7
+no_seven : (version : ℕ) (us : List RigUnit) → All (IsUnit version) us → has_target us 7 ≡ false
+no_seven version [] h = refl
+no_seven version (u ∷ us) h =
+    let here : nat_eq u.target 7 ≡ false = grind (arith, nat_tests, (All-head (IsUnit version) u us h).in_range.target) in
+    rw here (no_seven version us (All-tail (IsUnit version) u us h))
+
+pub leaves_out_seven : LeavesOutSeven
+leaves_out_seven version us h =
+    let none : has_target us 7 ≡ false = no_seven version us h in
+    rw none at (finds_targets us 7 (omega arith))
 
 -- ---- the chain of a target
 
@@ -126,12 +131,16 @@ filter_map-agree f g same (x ∷ xs) =
     let rest = filter_map-agree f g same xs in
     cc (here, rest)
 
--- with a LUN in SFBR the jumps lead to the chain of the unit with this target and LUN, and to the stop where there is none
-pub finds_unit : (us : List RigUnit) (target lun : ℕ) → lun < 8 → leads (lun_jumps us target ++ Int Always 9 ∷ []) lun ≡ option_map (λ (u : ℕ). unit_chain u) (position (is_at target lun) us)
+unit_end : (o : Option ℕ) → exit (option_map (λ (u : ℕ). unit_chain u) o) 9 ≡ unit_exit o
+unit_end None = refl
+unit_end (Some u) = refl
+
+pub finds_luns : FindsLuns
 unfolding lun_place
-finds_unit us target lun h =
+finds_luns us target lun h =
     ap (λ (ops : List Op). leads (ops ++ Int Always 9 ∷ []) lun) (lun_jumps-is us target ∙ filter_map-agree (lun_jump us target) (jump_to (lun_place us target)) (λ l. jump_of l (position (is_at target l) us)) (range_with_len 0 8))
     ∙ run_leads (lun_place us target) 0 8 9 lun (omega arith) (omega arith) (omega arith)
+    ∙ ap Some (unit_end (position (is_at target lun) us))
 
 -- ---- the units of a rig
 
@@ -145,9 +154,8 @@ not_before : (b : Bool) → (b ≡ true → ⊥) → not b ≡ true
 not_before true h = absurd (h refl)
 not_before false h = refl
 
--- in a rig, whose units have different targets or LUNs, the unit with the target and LUN of a unit is this unit
-pub unit_is_found : (us : List RigUnit) (u : ℕ) (d : RigUnit) → AllPairs Agree us → u < length us → position (is_at (get_or us u d).target (get_or us u d).lun) us ≡ Some u
-unit_is_found us u d agree h =
+pub finds_itself : FindsItself
+finds_itself us u d agree h =
     let test = is_at (get_or us u d).target (get_or us u d).lun in
     let here : not (test (get_or us u d)) ≡ false = ap not (is_itself (get_or us u d)) in
     let before = λ (k : ℕ) (below : k < u). not_before (test (get_or us k d)) (λ (yes : test (get_or us k d) ≡ true).

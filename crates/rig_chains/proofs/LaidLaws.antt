@@ -1,5 +1,5 @@
 -- Memory after the chains were laid.
-use Rattle.std.proofs.Common.{◌≡◌, ℕ, ◌+◌, ◌<◌, ◌≤◌, ◌⊎◌, inl, inr, true, List, length, fold, ◌∙◌, arith}
+use Rattle.std.proofs.Common.{◌≡◌, ℕ, ◌+◌, ◌%◌, ◌<◌, ◌≤◌, ◌⊎◌, inl, inr, true, List, length, fold, refl, ◌∙◌, arith}
 use Rattle.std.specs.List.{range_with_len}
 use Rattle.bench_words.specs.Memory.{word_at}
 use Rattle.bench_words.specs.Views.{Outside, WroteWithin}
@@ -8,6 +8,7 @@ use Rattle.host_map.specs.declared.TheConstants.{CHAINS}
 use Rattle.host_map.specs.Places.{target_chain, unit_chain, table_at}
 use Rattle.rig_types.specs.declared.rig.Unit.{Unit as RigUnit}
 use Rattle.rig_chains.specs.Chains.{has_target, targets, target_ops, lun_ops, unit_ops, put_ops, with_target, with_unit, with_chains, Spells, IsLaid}
+use Rattle.rig_chains.specs.Keeping.{KeepsChains}
 use Rattle.rig_chains.proofs.Laying.{targets-is}
 use Rattle.rig_chains.proofs.ChainLaws.{length-put_ops, put_ops-clear, put_ops-spells, spells_kept, target_ops-plain, lun_ops-plain, unit_ops-plain, target_ops-most, lun_ops-most}
 use Rattle.rig_chains.proofs.Blocks.{KeepsBlocks, Rising, IsIn, LeftBy, rising_range, rising_filter, in_range, in_filter, length-fold, fold_before, fold_behind, fold_at}
@@ -39,11 +40,11 @@ unit_blocks =
       rises = λ i j h. omega arith;
     }
 
-pub targets-rising : (us : List RigUnit) → Rising 0 7 (targets us)
-targets-rising us = rw (targets-is us) (rising_filter (has_target us) 0 7 (range_with_len 0 7) (rising_range 0 7 7 (omega arith)))
+pub targets-rising : (us : List RigUnit) → Rising 0 8 (targets us)
+targets-rising us = rw (targets-is us) (rising_filter (has_target us) 0 8 (range_with_len 0 8) (rising_range 0 8 8 (omega arith)))
 
-pub targets-in : (us : List RigUnit) (t : ℕ) → t < 7 → has_target us t ≡ true → IsIn t (targets us)
-targets-in us t h there = rw (targets-is us) (in_filter (has_target us) t (range_with_len 0 7) there (in_range 0 7 t (omega arith) (omega arith)))
+pub targets-in : (us : List RigUnit) (t : ℕ) → t < 8 → has_target us t ≡ true → IsIn t (targets us)
+targets-in us t h there = rw (targets-is us) (in_filter (has_target us) t (range_with_len 0 8) there (in_range 0 8 t (omega arith) (omega arith)))
 
 -- memory with the chain of the targets, with those of the LUNs, and with those of the units
 abbrev first_part : List ℕ → List RigUnit → List ℕ
@@ -62,23 +63,23 @@ below_units : (m : List ℕ) (us : List RigUnit) (x : ℕ) → length us ≤ 16 
 below_units m us x few h = fold_before unit_blocks (second_part m us) 0 16 x (range_with_len 0 (length us)) (units-rising us few) h
 
 below_targets : (m : List ℕ) (us : List RigUnit) (x : ℕ) → x + 4 ≤ 0x8100 → word_at (second_part m us) x ≡ word_at (first_part m us) x
-below_targets m us x h = fold_before (target_blocks us) (first_part m us) 0 7 x (targets us) (targets-rising us) h
+below_targets m us x h = fold_before (target_blocks us) (first_part m us) 0 8 x (targets us) (targets-rising us) h
 
 targets_laid : (m : List ℕ) (us : List RigUnit) → length m ≡ 0x400000 → length us ≤ 16 → Spells (word_at (third_part m us)) CHAINS (target_ops us)
 targets_laid m us size few =
     let most = target_ops-most us in
-    spells_kept (word_at (first_part m us)) (word_at (third_part m us)) CHAINS (target_ops us)
+    spells_kept (word_at (first_part m us)) (word_at (third_part m us)) CHAINS (target_ops us) refl
     (put_ops-spells m CHAINS (target_ops us) (target_ops-plain us) (omega arith))
-    (λ x from to. below_units m us x few (omega arith) ∙ below_targets m us x (omega arith))
+    (λ x al from to. below_units m us x few (omega arith) ∙ below_targets m us x (omega arith))
 
-luns_laid : (m : List ℕ) (us : List RigUnit) (t : ℕ) → length m ≡ 0x400000 → length us ≤ 16 → t < 7 → has_target us t ≡ true → Spells (word_at (third_part m us)) (target_chain t) (lun_ops us t)
+luns_laid : (m : List ℕ) (us : List RigUnit) (t : ℕ) → length m ≡ 0x400000 → length us ≤ 16 → t < 8 → has_target us t ≡ true → Spells (word_at (third_part m us)) (target_chain t) (lun_ops us t)
 luns_laid m us t size few h there =
-    let left = fold_at (target_blocks us) (first_part m us) 0 7 t (targets us) (targets-rising us) (targets-in us t h there) in
+    let left = fold_at (target_blocks us) (first_part m us) 0 8 t (targets us) (targets-rising us) (targets-in us t h there) in
     let most = lun_ops-most us t in
     let kept = left.kept ∙ length-put_ops m CHAINS (target_ops us) in
-    spells_kept (word_at (with_target us left.before t)) (word_at (third_part m us)) (target_chain t) (lun_ops us t)
+    spells_kept (word_at (with_target us left.before t)) (word_at (third_part m us)) (target_chain t) (lun_ops us t) (omega arith)
     (put_ops-spells left.before (target_chain t) (lun_ops us t) (lun_ops-plain us t few) (omega (arith, kept)))
-    (λ x from to. below_units m us x few (omega arith) ∙ left.same x from (omega arith))
+    (λ x al from to. below_units m us x few (omega arith) ∙ left.same x from (omega arith))
 
 unit_left : (m : List ℕ) (us : List RigUnit) (u : ℕ) → length us ≤ 16 → u < length us → LeftBy unit_chain 0x20 with_unit (second_part m us) (third_part m us) u
 unit_left m us u few h =
@@ -92,9 +93,9 @@ units_laid m us u size few h =
     let left = unit_left m us u few h in
     let kept = left.kept ∙ length-second m us in
     let n = put_ops left.before (unit_chain u) (unit_ops u) in
-    spells_kept (word_at n) (word_at (third_part m us)) (unit_chain u) (unit_ops u)
+    spells_kept (word_at n) (word_at (third_part m us)) (unit_chain u) (unit_ops u) (omega arith)
     (put_ops-spells left.before (unit_chain u) (unit_ops u) (unit_ops-plain u (omega arith)) (omega (arith, kept)))
-    (λ x from to. left.same x from (omega arith) ∙ word_apart n (unit_chain u + 0x10) x (table_at u 0) (inl (omega arith)))
+    (λ x al from to. left.same x from (omega arith) ∙ word_apart n (unit_chain u + 0x10) x (table_at u 0) (inl (omega arith)))
 
 tables_laid : (m : List ℕ) (us : List RigUnit) (u : ℕ) → length m ≡ 0x400000 → length us ≤ 16 → u < length us → word_at (third_part m us) (unit_chain u + 0x10) ≡ table_at u 0
 tables_laid m us u size few h =
@@ -122,7 +123,7 @@ low_clear m us x few h =
 high_clear : (m : List ℕ) (us : List RigUnit) (x : ℕ) → length us ≤ 16 → 0x9000 ≤ x → word_at (third_part m us) x ≡ word_at m x
 high_clear m us x few h =
     fold_behind unit_blocks (second_part m us) 0 16 x (range_with_len 0 (length us)) (units-rising us few) (omega arith)
-    ∙ fold_behind (target_blocks us) (first_part m us) 0 7 x (targets us) (targets-rising us) (omega arith)
+    ∙ fold_behind (target_blocks us) (first_part m us) 0 8 x (targets us) (targets-rising us) (omega arith)
     ∙ put_ops-clear m CHAINS x (target_ops us) (inr (omega (arith, target_ops-most us)))
 
 clear_cases : (x : ℕ) → Outside x 0x8000 0x9000 → (x + 4 ≤ 0x8000) ⊎ (0x9000 ≤ x)
@@ -138,11 +139,15 @@ unfolding with_chains
 chains_within m us few = record { other = λ x out. clear_by m us x few (clear_cases x out) }
 
 -- memory still holds the chains where their region is as before
-pub laid_kept : (v w : ℕ → ℕ) (us : List RigUnit) → length us ≤ 16 → ((x : ℕ) → 0x8000 ≤ x → x + 4 ≤ 0x9000 → w x ≡ v x) → IsLaid v us → IsLaid w us
+pub laid_kept : (v w : ℕ → ℕ) (us : List RigUnit) → length us ≤ 16 → ((x : ℕ) → x % 4 ≡ 0 → 0x8000 ≤ x → x + 4 ≤ 0x9000 → w x ≡ v x) → IsLaid v us → IsLaid w us
 laid_kept v w us few same laid =
     record {
-      targets_laid = spells_kept v w CHAINS (target_ops us) laid.targets_laid (λ x from to. same x (omega arith) (omega (arith, target_ops-most us)));
-      luns_laid = λ t h there. spells_kept v w (target_chain t) (lun_ops us t) (laid.luns_laid t h there) (λ x from to. same x (omega arith) (omega (arith, lun_ops-most us t)));
-      units_laid = λ u h. spells_kept v w (unit_chain u) (unit_ops u) (laid.units_laid u h) (λ x from to. same x (omega arith) (omega arith));
-      tables_laid = λ u h. same (unit_chain u + 0x10) (omega arith) (omega arith) ∙ laid.tables_laid u h;
+      targets_laid = spells_kept v w CHAINS (target_ops us) refl laid.targets_laid (λ x al from to. same x al (omega arith) (omega (arith, target_ops-most us)));
+      luns_laid = λ t h there. spells_kept v w (target_chain t) (lun_ops us t) (omega arith) (laid.luns_laid t h there) (λ x al from to. same x al (omega arith) (omega (arith, lun_ops-most us t)));
+      units_laid = λ u h. spells_kept v w (unit_chain u) (unit_ops u) (omega arith) (laid.units_laid u h) (λ x al from to. same x al (omega arith) (omega arith));
+      tables_laid = λ u h. same (unit_chain u + 0x10) (omega arith) (omega arith) (omega arith) ∙ laid.tables_laid u h;
     }
+
+pub keeps_chains : KeepsChains
+keeps_chains old new us few kept laid =
+    laid_kept old new us few (λ x al from to. kept.at x (record { from = from; to = to })) laid

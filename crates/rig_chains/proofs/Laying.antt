@@ -26,7 +26,7 @@ targets_to us n = filter (has_target us) (range_with_len 0 n)
 abbrev pub target_jumps : List Unit → ℕ → List Op
 target_jumps us n = map (λ (t : ℕ). jump_if t (target_chain t)) (targets_to us n)
 
-pub targets-is : (us : List Unit) → targets us ≡ targets_to us 7
+pub targets-is : (us : List Unit) → targets us ≡ targets_to us 8
 unfolding targets
 targets-is us = refl
 

@@ -26,7 +26,7 @@ is_at target lun u = nat_eq u.target target && nat_eq u.lun lun
 
 -- the targets of the rig by rising number
 unfoldable pub targets : List Unit → List ℕ
-targets us = filter (has_target us) (range_with_len 0 7)
+targets us = filter (has_target us) (range_with_len 0 8)
 
 -- JUMP address, IF value
 abbrev pub jump_if : ℕ → ℕ → Op
@@ -88,6 +88,6 @@ pub record Spells (view : ℕ → ℕ) (a : ℕ) (ops : List Op) : Type 0 where
 -- memory holds the chains of a rig: every instruction at its address, and each unit's tag tables
 pub record IsLaid (view : ℕ → ℕ) (us : List Unit) : Type 0 where
   pub targets_laid : Spells view CHAINS (target_ops us)
-  pub luns_laid : (t : ℕ) → t < 7 → has_target us t ≡ true → Spells view (target_chain t) (lun_ops us t)
+  pub luns_laid : (t : ℕ) → t < 8 → has_target us t ≡ true → Spells view (target_chain t) (lun_ops us t)
   pub units_laid : (u : ℕ) → u < length us → Spells view (unit_chain u) (unit_ops u)
   pub tables_laid : (u : ℕ) → u < length us → view (unit_chain u + 0x10) ≡ table_at u 0

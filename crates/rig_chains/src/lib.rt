@@ -13,14 +13,17 @@ ghost use Rattle.host_map.specs.declared.TheConstants.{CHAINS};
 ghost use Rattle.host_map.specs.Places.{target_chain, unit_chain};
 ghost use Rattle.rig_chains.specs.Chains.{has_target, is_at, jump_if, target_ops, lun_ops, identify_ops, put_op, put_ops, with_unit, with_chains, IsLaid};
 
+mod laws;
+
 use bench_words::Words;
 use driver_script::{Name, label};
 use host_map::{CHAINS, MSGIN, tag_entry};
+pub use laws::{chains_stay, units_are_found};
 use rig_types::Unit;
 use scripts_ops::{Address, Change, Condition, Op, encode};
 
-/// The targets of a rig are below this.
-const TARGETS: u8 = 7;
+/// A bus has eight SCSI IDs, from 0 on; a target that no unit of the rig has gets no jump.
+const TARGETS: u8 = 8;
 /// The LUNs of a target are below this.
 const LUNS: u8 = 8;
 /// The vector of a target that isn't in the rig.
@@ -53,9 +56,9 @@ fn unit_at(units: &[Unit], target: u8, lun: u8) -> Option<usize>
         .position(|unit| unit.target == target && unit.lun == lun)
 }
 
-/// The address of the chain of a target, below 7.
+/// The address of the chain of a target, below 8.
 fn target_chain(target: u8) -> u32
-    requires { target < 7 }
+    requires { target < 8 }
     ensures { result ≡ target_chain target }
 {
     CHAINS + 0x100 + 0x80 * u32::from(target)
@@ -159,12 +162,12 @@ fn lay_targets(words: &mut Words, units: &[Unit])
     put(words, at, stop(UNKNOWN_TARGET));
 }
 
-/// Lays the chain of a target below 7, from its IDENTIFY message on: for each of its units by rising LUN a jump to the
+/// Lays the chain of a target below 8, from its IDENTIFY message on: for each of its units by rising LUN a jump to the
 /// chain of the unit.
 fn lay_luns(words: &mut Words, units: &[Unit], target: u8)
     requires memory { length words.old ≡ 0x400000 }
     requires units { length units.now ≤ 16 }
-    requires target { target < 7 }
+    requires target { target < 8 }
     ensures wrote { words.new ≡ put_ops words.old (target_chain target) (lun_ops units.now target) }
     ensures size { length words.new ≡ length words.old }
 {

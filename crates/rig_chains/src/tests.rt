@@ -93,3 +93,20 @@ fn rising_numbers(rt: HostRuntime) -> Result<(), Fail> {
     check_words(&rt, &words, 0x8850, &[0x4800]);
     Ok(())
 }
+
+/// A bus may name eight targets; no unit of a rig has the last one, and a unit that had it would have its chain.
+#[test]
+fn eight_targets(rt: HostRuntime) -> Result<(), Fail> {
+    let mut words = Words::new(rt.alloc(), 0x10_0000)?;
+    lay_chains(&mut words, &[unit(6, 0), unit(7, 2)]);
+    let targets = [0x800c_0006, 0x8400, 0x800c_0007, 0x8480, 0x9808_0000, 0x0a];
+    check_words(&rt, &words, 0x8000, &targets);
+    check_words(
+        &rt,
+        &words,
+        0x8498,
+        &[0x800c_0002, 0x8820, 0x9808_0000, 0x09],
+    );
+    check_words(&rt, &words, 0x8500, &[0; 16]);
+    Ok(())
+}

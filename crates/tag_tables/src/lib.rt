@@ -5,7 +5,11 @@
 #![tactic(auto)]
 
 ghost use Rattle.std.specs.Prelude.{◌≡◌, ◌<◌, length};
-ghost use Rattle.tag_tables.specs.Tables.{entry_of, linked, unlinked};
+ghost use Rattle.bench_words.specs.Memory.{word_at};
+ghost use Rattle.bench_words.specs.Views.{Wrote};
+ghost use Rattle.host_map.specs.declared.TheConstants.{NOTASK};
+ghost use Rattle.host_map.specs.Places.{tag_entry};
+ghost use Rattle.tag_tables.specs.Tables.{entry_of, linked, unlinked, OthersStay};
 
 use bench_words::Words;
 use host_map::{NOTASK, tag_entry};
@@ -15,6 +19,8 @@ pub fn link(words: &mut Words, unit: u8, tag: u8, block: u32)
     requires memory { length words.old ≡ 0x400000 }
     requires unit { unit < 16 }
     ensures wrote { words.new ≡ linked words.old unit tag block }
+    ensures words { Wrote (word_at words.old) (word_at words.new) (tag_entry unit tag) block }
+    ensures others { OthersStay words.old words.new unit tag }
     ensures size { length words.new ≡ length words.old }
 {
     words.set(tag_entry(unit, tag), block);
@@ -25,6 +31,8 @@ pub fn unlink(words: &mut Words, unit: u8, tag: u8)
     requires memory { length words.old ≡ 0x400000 }
     requires unit { unit < 16 }
     ensures wrote { words.new ≡ unlinked words.old unit tag }
+    ensures words { Wrote (word_at words.old) (word_at words.new) (tag_entry unit tag) NOTASK }
+    ensures others { OthersStay words.old words.new unit tag }
     ensures size { length words.new ≡ length words.old }
 {
     words.set(tag_entry(unit, tag), NOTASK);

@@ -32,7 +32,7 @@ pub loop-unit-init : goal.loop-unit-init
 loop-unit-init c =
     let us = c.args.units.now in
     let e : targets_to us c.loop-id.id ≡ targets us =
-    let n : c.loop-id.id ≡ 7 = omega arith in rw n (sym (targets-is us)) in
+    let n : c.loop-id.id ≡ 8 = omega arith in rw n (sym (targets-is us)) in
     record {
       size = c.loop-id.invariant.size;
       so_far = subst (λ (ts : List ℕ). c.loop-id.words ≡ fold (with_target us) (put_ops c.args.words.now CHAINS (target_ops us)) ts) e c.loop-id.invariant.so_far;

@@ -43,7 +43,7 @@ returns-clause-wrote c =
     let us = c.args.units.now in
     let jumps = λ (ts : List ℕ). map (λ (t : ℕ). jump_if t (target_chain t)) ts in
     let e : target_jumps us c.loop-target.target ≡ jumps (targets us) =
-    let n : c.loop-target.target ≡ 7 = omega arith in rw n (ap jumps (sym (targets-is us))) in
+    let n : c.loop-target.target ≡ 8 = omega arith in rw n (ap jumps (sym (targets-is us))) in
     let place = subst (λ (js : List Op). c.loop-target.at ≡ CHAINS + 8 * length js) e c.loop-target.invariant.place in
     let so_far = subst (λ (js : List Op). c.loop-target.words ≡ put_ops c.args.words.now CHAINS js) e c.loop-target.invariant.so_far in
     rw (c.put.ensures.wrote, c.stop.ensures.op, so_far)
