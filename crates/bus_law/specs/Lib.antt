@@ -1,0 +1,7 @@
+pub mod Bus
+pub mod Choices
+pub mod Bytes
+pub mod Reselections
+pub mod Attention
+pub mod Moves
+pub mod Laws

@@ -1,0 +1,9 @@
+pub mod Desk
+pub mod Rings
+pub mod Blocks
+pub mod Refusals
+pub mod Building
+pub mod Calls
+pub mod Taking
+pub mod Reporting
+pub mod Laws

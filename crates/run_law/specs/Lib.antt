@@ -1,0 +1,9 @@
+pub mod Changes
+pub mod History
+pub mod Late
+pub mod Touched
+pub mod Contained
+pub mod Fitting
+pub mod Serial
+pub mod Bound
+pub mod Laws

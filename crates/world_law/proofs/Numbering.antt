@@ -1,0 +1,119 @@
+-- The tickets of a run are numbered as they were accepted, and every report is of one of them, at most once.
+use Rattle.std.proofs.Common.{arith, ◌≡◌, ◌≢◌, ◌<◌, ◌≤◌, ℕ, zero, suc, ◌+◌, Bool, true, false, List, [], ◌∷◌, ◌++◌, length, slice_index_or, Option, Some, None, refl, sym, ap, subst, ◌∙◌, ◌⊎◌, inl, inr}
+use Rattle.std.specs.List.{All, AllPairs, range_with_len, cons_option}
+use Rattle.std.proofs.lemmas.List.Elements.{All-append}
+use Rattle.std.proofs.lemmas.List.Quantifiers.{all_pairs_push}
+use Rattle.rig_types.specs.declared.report.Report.{Report}
+use Rattle.desk_law.specs.declared.ticket.Ticket.{Ticket}
+use Rattle.desk_law.specs.Desk.{no_ticket, ticket, is_freed}
+use Rattle.world_law.specs.declared.reply.Reply.{Reply}
+use Rattle.world_law.specs.World.{Setting, World}
+use Rattle.world_law.specs.Opening.{opened}
+use Rattle.world_law.specs.Runs.{Moment, IsRun, last, built, accepted}
+use Rattle.world_law.specs.Laws.{NumbersTickets}
+use Rattle.world_law.proofs.Effects.{Counted, OneReport, Effect, not-freed-within, effect}
+use Rattle.world_law.proofs.Tickets.{freed_stays, grown}
+
+-- ---- reports
+
+abbrev IsOfFreed : World → Report → Type 0
+IsOfFreed w r = (r.ticket < length w.desk.tickets) × (is_freed (ticket w.desk r.ticket).stage ≡ true)
+
+abbrev AreOfTwo : Report → Report → Type 0
+AreOfTwo a b = a.ticket ≢ b.ticket
+
+record Reported (w : World) : Type 0 where
+  pub each : All (IsOfFreed w) w.reports
+  pub once : AllPairs AreOfTwo w.reports
+
+still-freed : (g : Setting) (caller : ℕ) (old : World) (a : Reply) (new : World) → Effect g caller old a new → (r : Report) → IsOfFreed old r → IsOfFreed new r
+still-freed g caller old a new x r h = (
+  omega (arith, h.0, grown old.desk.tickets new.desk.tickets (built a) x.counted),
+  freed_stays caller old.desk.tickets new.desk.tickets x.tickets r.ticket h.0 h.1,
+)
+
+one : (P : Report → Type 0) (r : Report) → P r → All P (r ∷ [])
+one P r h = λ k d l. at-one k d l
+  where
+    at-one : (k : ℕ) (d : Report) → k < length (r ∷ []) → P (slice_index_or (r ∷ []) k d)
+    at-one zero d l = h
+    at-one (suc k) d l = absurd (omega (arith, l))
+
+two-stages : (w : World) (a b : Report) → is_freed (ticket w.desk a.ticket).stage ≡ true → is_freed (ticket w.desk b.ticket).stage ≡ false → AreOfTwo a b
+two-stages w a b f l e =
+    let c : true ≡ false = sym f ∙ ap (λ (t : ℕ). is_freed (ticket w.desk t).stage) e ∙ l in absurd cc
+
+reported-more : (g : Setting) (caller : ℕ) (old : World) (a : Reply) (new : World) → Effect g caller old a new → Reported old → OneReport old new → Reported new
+reported-more g caller old a new x h r = record {
+  each = subst (λ (rs : List Report). All (IsOfFreed new) rs) (sym r.are)
+      (All-append (IsOfFreed new) old.reports (r.report ∷ []) (λ k d l. still-freed g caller old a new x (slice_index_or old.reports k d) (h.each k d l))
+      (one (IsOfFreed new) r.report
+      (omega (arith, not-freed-within old.desk.tickets r.report.ticket r.live, grown old.desk.tickets new.desk.tickets (built a) x.counted), r.freed)));
+  once = subst (λ (rs : List Report). AllPairs AreOfTwo rs) (sym r.are)
+      (all_pairs_push AreOfTwo old.reports r.report h.once (λ k d l. two-stages old (slice_index_or old.reports k d) r.report (h.each k d l).1 r.live));
+}
+
+reported-same : (g : Setting) (caller : ℕ) (old : World) (a : Reply) (new : World) → Effect g caller old a new → Reported old → new.reports ≡ old.reports → Reported new
+reported-same g caller old a new x h e = record {
+  each = subst (λ (rs : List Report). All (IsOfFreed new) rs) (sym e) (λ k d l. still-freed g caller old a new x (slice_index_or old.reports k d) (h.each k d l));
+  once = subst (λ (rs : List Report). AllPairs AreOfTwo rs) (sym e) h.once;
+}
+
+reported : (g : Setting) (caller : ℕ) (old : World) (a : Reply) (new : World) → Effect g caller old a new → Reported old → Reported new
+reported g caller old a new x h = elim x.reports [
+  | inl e ↦ reported-same g caller old a new x h e
+  | inr r ↦ reported-more g caller old a new x h r
+]
+
+-- ---- numbers
+
+abbrev consed : Option ℕ → List ℕ → List ℕ
+consed None xs = xs
+consed (Some x) xs = x ∷ xs
+
+accepted-as : (m : Moment) (ms : List Moment) (p : Option ℕ) → built m.reply ≡ p → accepted (m ∷ ms) ≡ consed p (accepted ms)
+accepted-as m ms None e = ap (λ (x : Option ℕ). cons_option x (accepted ms)) e
+accepted-as m ms (Some t) e = ap (λ (x : Option ℕ). cons_option x (accepted ms)) e
+
+record Numbered (w : World) (ms : List Moment) : Type 0 where
+  pub n : ℕ
+  pub are : accepted ms ≡ range_with_len (length w.desk.tickets) n
+  pub many : length (last w ms).desk.tickets ≡ length w.desk.tickets + n
+  pub reports : Reported (last w ms)
+
+one-more : (w : World) (m : Moment) (ms : List Moment) → Counted w.desk.tickets (built m.reply) m.after.desk.tickets → Numbered m.after ms → Numbered w (m ∷ ms)
+one-more w m ms c x = elim c [
+  | inl h ↦ record {
+    n = x.n;
+    are = accepted-as m ms None h.0 ∙ x.are ∙ ap (λ (k : ℕ). range_with_len k x.n) h.1;
+    many = x.many ∙ ap (λ (k : ℕ). k + x.n) h.1;
+    reports = x.reports;
+  }
+  | inr h ↦ record {
+    n = suc x.n;
+    are = accepted-as m ms (Some (length w.desk.tickets)) h.0 ∙ ap (λ (ts : List ℕ). length w.desk.tickets ∷ ts) (x.are ∙ ap (λ (k : ℕ). range_with_len k x.n) h.1);
+    many = omega (arith, x.many, h.1);
+    reports = x.reports;
+  }
+]
+
+numbers : (g : Setting) (w : World) (ms : List Moment) → Reported w → IsRun g w ms → Numbered w ms
+numbers g w [] h r = record { n = 0; are = refl; many = omega arith; reports = h }
+numbers g w (m ∷ ms) h r =
+    let x : Effect g m.entry.caller w m.reply m.after = effect g w m.entry.caller m.entry.step m.reply m.after r.0.enabled r.0.does in
+    one-more w m ms x.counted (numbers g m.after ms (reported g m.entry.caller w m.reply m.after x h) r.1)
+
+none-yet : (g : Setting) → Reported (opened g)
+none-yet g = record { each = λ k d l. absurd (omega (arith, l)); once = λ i j d l m. absurd (omega (arith, m)) }
+
+zero-plus : (n : ℕ) → 0 + n ≡ n
+zero-plus n = omega arith
+
+pub numbers_tickets : (g : Setting) (ms : List Moment) → IsRun g (opened g) ms → NumbersTickets (opened g) ms
+numbers_tickets g ms r =
+    let x : Numbered (opened g) ms = numbers g (opened g) ms (none-yet g) r in
+    record {
+      numbered = x.are ∙ ap (λ (k : ℕ). range_with_len 0 k) (sym (x.many ∙ zero-plus x.n));
+      reported = λ k d l. (x.reports.each k d l).0;
+      once = x.reports.once;
+    }

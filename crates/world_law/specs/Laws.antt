@@ -1,0 +1,66 @@
+-- Laws of the world and of runs.
+use Rattle.std.specs.Prelude.{◌≡◌, ◌≢◌, ◌<◌, ℕ, true, List, [], ◌∷◌, ◌++◌, length, slice_set}
+use Rattle.std.specs.List.{range_with_len, All, AllPairs}
+use Rattle.rig_types.specs.declared.step.Step.{Step}
+use Rattle.rig_types.specs.declared.step.Step.TheVariants as step
+use Rattle.rig_types.specs.declared.report.Report.{Report}
+use Rattle.rig_types.specs.declared.commands.Command.{Command}
+use Rattle.desk_law.specs.declared.ticket.Ticket.{Ticket}
+use Rattle.desk_law.specs.Desk.{ticket, due}
+use Rattle.world_law.specs.declared.reply.Reply.{Reply}
+use Rattle.world_law.specs.World.{Setting, World, commands_of, lines_of}
+use Rattle.world_law.specs.Opening.{opened}
+use Rattle.world_law.specs.Lines.{is_unqueued, drained}
+use Rattle.world_law.specs.Enabling.{Enabled}
+use Rattle.world_law.specs.Steps.{Does}
+use Rattle.world_law.specs.Runs.{Moment, Steps, IsRun, last, accepted}
+
+-- a run one moment longer is the run, and then this moment in the world after it
+abbrev pub GoesOn : Type 0
+GoesOn = (g : Setting) (w : World) (ms : List Moment) (m : Moment) → IsRun g w ms → Steps g (last w ms) m → IsRun g w (ms ++ m ∷ [])
+
+-- in a drained world no step is enabled
+abbrev pub RestsDrained : Type 0
+RestsDrained = (g : Setting) (w : World) (caller : ℕ) (s : Step) → drained g w ≡ true → Enabled g w caller s → ⊥
+
+-- every step but the chip's
+abbrev pub IsPatch : Step → Type 0
+IsPatch (step.Chip word) = ⊥
+IsPatch _ = Unit {0}
+
+-- such a step has one answer, and leaves one world
+abbrev pub PatchesOnce : Type 0
+PatchesOnce = (g : Setting) (old : World) (caller : ℕ) (s : Step) (a b : Reply) (new other : World) → IsPatch s → Does g old caller s a new
+    → Does g old caller s b other → (a ≡ b) × (new ≡ other)
+
+-- the tickets of a run are numbered as they were accepted, every report is of one of them, and two reports are of two
+pub record NumbersTickets (w : World) (ms : List Moment) : Type 0 where
+  pub numbered : accepted ms ≡ range_with_len 0 (length (last w ms).desk.tickets)
+  pub reported : All (λ (r : Report). r.ticket < length (last w ms).desk.tickets) (last w ms).reports
+  pub once : AllPairs (λ (a : Report) (b : Report). a.ticket ≢ b.ticket) (last w ms).reports
+
+abbrev pub ReportsAccepted : Type 0
+ReportsAccepted = (g : Setting) (ms : List Moment) → IsRun g (opened g) ms → NumbersTickets (opened g) ms
+
+-- a step of another caller leaves what a submitter has still to do: its next line, its due signals, and its tickets that are Built or Linked
+abbrev pub IsHeldBy : (s : ℕ) → Ticket → Type 0
+IsHeldBy s k = (k.line.submitter ≡ s) × (is_unqueued k.stage ≡ true)
+
+pub record LeavesSubmitter (s : ℕ) (old new : World) : Type 0 where
+  pub lines : lines_of new s ≡ lines_of old s
+  pub due : due new.desk s ≡ due old.desk s
+  pub held : (t : ℕ) → IsHeldBy s (ticket old.desk t) → ticket new.desk t ≡ ticket old.desk t
+  pub no_more : (t : ℕ) → IsHeldBy s (ticket new.desk t) → ticket new.desk t ≡ ticket old.desk t
+
+abbrev pub OthersLeave : Type 0
+OthersLeave = (g : Setting) (old : World) (m : Moment) (s : ℕ) → s < old.desk.submitters → s ≢ m.entry.caller → Steps g old m
+    → LeavesSubmitter s old m.after
+
+-- the setting in which a submitter has one more line, at its end
+abbrev pub longer : Setting → (s : ℕ) → Command → Setting
+longer g s c = record g { submitters = slice_set g.submitters s (commands_of g s ++ c ∷ []) }
+
+-- a run stays a run there
+abbrev pub Extends : Type 0
+Extends = (g : Setting) (s : ℕ) (c : Command) (ms : List Moment) → s < length g.submitters → IsRun g (opened g) ms
+    → IsRun (longer g s c) (opened (longer g s c)) ms

@@ -1,0 +1,33 @@
+//! Laws of the world. Each function does nothing; its contract is the law.
+
+ghost use Rattle.world_law.specs.Laws.{GoesOn, RestsDrained, PatchesOnce, ReportsAccepted, OthersLeave, Extends};
+
+/// A run one moment longer is the run, and then this moment.
+pub fn one_moment_longer()
+    ensures { GoesOn }
+{}
+
+/// In a drained world no step is enabled.
+pub fn rests_drained()
+    ensures { RestsDrained }
+{}
+
+/// A step of the driver has one answer and leaves one world.
+pub fn patches_once()
+    ensures { PatchesOnce }
+{}
+
+/// The tickets of a run are numbered as they were accepted, and every report is of one of them, at most once.
+pub fn reports_accepted()
+    ensures { ReportsAccepted }
+{}
+
+/// A step of another caller leaves a submitter's next line, its due signals and its tickets that are Built or Linked.
+pub fn others_leave()
+    ensures { OthersLeave }
+{}
+
+/// A run stays a run where a submitter gets one more line.
+pub fn longer_works()
+    ensures { Extends }
+{}

@@ -1,0 +1,13 @@
+//! The world of a run, what each step of a caller answers and makes of it, and runs: lists of recorded steps from the
+//! opening on. These are definitions with their laws; the types that run are the replies and the owners of words.
+#![tactic(auto)]
+
+mod laws;
+mod owner;
+mod reply;
+
+pub use laws::{
+    longer_works, one_moment_longer, others_leave, patches_once, reports_accepted, rests_drained,
+};
+pub use owner::Owner;
+pub use reply::{Decided, Reply, Seen, Stop};
