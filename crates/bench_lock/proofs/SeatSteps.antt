@@ -11,7 +11,6 @@ use lib.ListN.{get_elem?}
 use Rattle.atomic_table.specs.Table.{State, Me, step, Act, keeps, takes, gives, Valid, stepped, homes_after, carried_after, Allows, Splits, Joins, Final, Seen, rest}
 use Rattle.atomic_table.specs.Table as Table
 use Rattle.atomic_table.proofs.Lists.{set_here, set_else, set_again, at_longer}
-use Rattle.bench_lock.specs.declared.entry.Entry.{Entry}
 use Rattle.bench_lock.specs.declared.view.View.{View}
 use Rattle.bench_lock.specs.Log.{entries_of, Begins, has, entry, added}
 use Rattle.bench_lock.specs.Rule.{ticket_count, spare_count}
@@ -21,7 +20,7 @@ use Rattle.bench_lock.specs.Stepped.{Stepped}
 use Rattle.bench_lock.proofs.Own.{own_to, others_since, own_longer, none_before}
 use Rattle.bench_lock.proofs.Numbers.{draw_mod, pass_mod, first_place, dec_zero, total_set, total_le, inside, one_view, seats_set, prefix_of, total-append, at_end, true_false, has-append, has_one, has_without, without_less, not_retired, not_retired', or_cases, has_below, length-numbers_from, drop_all}
 
-module _ {M O T : Type 0} (opening : M → O) (list : M → List (Entry T)) (o : O) (base callers : ℕ) where
+module _ {M O T : Type 0} (opening : M → O) (list : M → List (ℕ × T)) (o : O) (base callers : ℕ) where
   abbrev V : Type 0
   V = View O T
 
@@ -42,7 +41,7 @@ module _ {M O T : Type 0} (opening : M → O) (list : M → List (Entry T)) (o :
       → Goal id me i f then views ws' hs' → Goal id me i f then views ws hs
   shaped id me i f then views ws ws' hs hs' e h g = subst (λ (z : List ℕ × List (maybe.Option M)). Goal id me i f then views z.0 z.1) (λ k. (sym e k, sym h k)) g
 
-  homed_stays : (home : maybe.Option M) (log : List (Entry T)) (views : List V) (id : ℕ) (v w : V) → get_elem? views id ≡ some v → v.turn ≡ false
+  homed_stays : (home : maybe.Option M) (log : List (ℕ × T)) (views : List V) (id : ℕ) (v w : V) → get_elem? views id ≡ some v → v.turn ≡ false
       → Homed opening list o log views home → Homed opening list o log (set views id w) home
   homed_stays (some m) log views id v w at off h = h
   homed_stays none log views id v w at off h = let ne : h.0 ≢ id = λ e. let same : h.1.turn ≡ v.turn = ap (λ (u : V). u.turn) (one_view views id h.0 v h.1 at h.2 e) in cc (sym h.3 ∙ (same ∙ off)) in
@@ -118,13 +117,13 @@ module _ {M O T : Type 0} (opening : M → O) (list : M → List (Entry T)) (o :
   few_out s r = let l = total_le ticket_count ticket_le s.views in let a = r.few.0 in let b = r.few.1 in let c = r.few.2 in omega arith
 
   -- the same where the seat keeps its turn
-  homed_same : (home : maybe.Option M) (log : List (Entry T)) (views : List V) (id : ℕ) (v w : V) → get_elem? views id ≡ some v → w.turn ≡ v.turn → Homed opening list o log views home → Homed opening list o log (set views id w) home
+  homed_same : (home : maybe.Option M) (log : List (ℕ × T)) (views : List V) (id : ℕ) (v w : V) → get_elem? views id ≡ some v → w.turn ≡ v.turn → Homed opening list o log views home → Homed opening list o log (set views id w) home
   homed_same (some m) log views id v w at same h = h
   homed_same none log views id v w at same h = dite (ℕ_discrete h.0 id)
       (λ e. (id, w, set_here views id w (inside views id v at), same ∙ (ap (λ (u : V). u.turn) (sym (one_view views id h.0 v h.1 at h.2 e)) ∙ h.3)))
       (λ ne. (h.0, h.1, set_else views id h.0 w ne ∙ h.2, h.3))
 
-  homed_longer : (home : maybe.Option M) (log : List (Entry T)) (views : List V) (w : V) → Homed opening list o log views home → Homed opening list o log (views ++ w ∷ []) home
+  homed_longer : (home : maybe.Option M) (log : List (ℕ × T)) (views : List V) (w : V) → Homed opening list o log views home → Homed opening list o log (views ++ w ∷ []) home
   homed_longer (some m) log views w h = h
   homed_longer none log views w h = (h.0, h.1, at_longer views (w ∷ []) h.0 h.1 h.2, h.3)
 
@@ -188,7 +187,7 @@ module _ {M O T : Type 0} (opening : M → O) (list : M → List (Entry T)) (o :
       let me = r.seats id v.0 at in
       let live : v.0.live ≡ true = me.live on in
       let w : V = with_turn (list y) v.0 in
-      let own : IsOwn v.0 (list y) = subst (λ (es : List (Entry T)). IsOwn v.0 es) (sym t.3) (own_to v.0 base r.log (me.fixed live).1 r.begun (me.caller live).2) in
+      let own : IsOwn v.0 (list y) = subst (λ (es : List (ℕ × T)). IsOwn v.0 es) (sym t.3) (own_to v.0 base r.log (me.fixed live).1 r.begun (me.caller live).2) in
       let new : K record { words = r.next ∷ r.serving ∷ length r.log ∷ []; homes = none ∷ []; views = set s.views id w } = record {
         next = r.next;
         serving = r.serving;
@@ -219,7 +218,7 @@ module _ {M O T : Type 0} (opening : M → O) (list : M → List (Entry T)) (o :
           y,
           (
             refl,
-            others_since v.0 (list y) (me.known live) own (subst (λ (es : List (Entry T)). Begins v.0.seen es) (sym t.3) me.seen),
+            others_since v.0 (list y) (me.known live) own (subst (λ (es : List (ℕ × T)). Begins v.0.seen es) (sym t.3) me.seen),
             (me.fixed live).0 ∙ ap (λ (p : O). Some p) (sym t.2),
             own,
           ),
@@ -232,26 +231,26 @@ module _ {M O T : Type 0} (opening : M → O) (list : M → List (Entry T)) (o :
       (looks_on slots id v on off s r at (eqb r.serving v.0.ticket) refl)
 
   -- entries that others did not make
-  more : (log es : List (Entry T)) (x : ℕ) → base ≤ length log → entries_of x es ≡ [] → entries_of x (drop base (log ++ es)) ≡ entries_of x (drop base log)
-  more log es x le theirs = ap (entries_of x) (drop-append-le base log es le) ∙ (filter-append (λ e. eqb e.caller x) (drop base log) es ∙ (ap (λ l. entries_of x (drop base log) ++ l) theirs ∙ append-nil (entries_of x (drop base log))))
+  more : (log es : List (ℕ × T)) (x : ℕ) → base ≤ length log → entries_of x es ≡ [] → entries_of x (drop base (log ++ es)) ≡ entries_of x (drop base log)
+  more log es x le theirs = ap (entries_of x) (drop-append-le base log es le) ∙ (filter-append (λ (e : ℕ × T). eqb e.0 x) (drop base log) es ∙ (ap (λ l. entries_of x (drop base log) ++ l) theirs ∙ append-nil (entries_of x (drop base log))))
 
   same_held : (y z : M) → let l : List (ℕ × M) = (0, y) ∷ [] in let m : List (ℕ × M) = (0, z) ∷ [] in l ≡ m → y ≡ z
   same_held y z e = ap (λ (l : List (ℕ × M)). (get_or l 0 (0, y)).1) e
 
-  counts_held : (slots id : ℕ) (v : V) (y : M) (es : List (Entry T)) (k : ℕ) → v.live ≡ true → v.turn ≡ true → length (list y) < 2 ^ 32 → list y ≡ v.seen ++ es → k ≡ length es
+  counts_held : (slots id : ℕ) (v : V) (y : M) (es : List (ℕ × T)) (k : ℕ) → v.live ≡ true → v.turn ≡ true → length (list y) < 2 ^ 32 → list y ≡ v.seen ++ es → k ≡ length es
       → entries_of v.caller es ≡ es → ((x : ℕ) → x ≢ v.caller → entries_of x es ≡ []) → Allows K slots id (v, (0, y) ∷ []) 2 (λ n. (n + k) % 2 ^ 64) (Counts opening list (step slots 2 k 0 none) (v, (0, y) ∷ []))
   counts_held slots id v y es k live on short adds many own others s r one at small =
       let me = r.seats id v at in let turn = me.turn on in
-      let longer : list y ≡ r.log ++ es = adds ∙ ap (λ (l : List (Entry T)). l ++ es) turn.2 in
+      let longer : list y ≡ r.log ++ es = adds ∙ ap (λ (l : List (ℕ × T)). l ++ es) turn.2 in
       let w : V = with_list (list y) v in
       let c : ℕ = (length r.log + k) % 2 ^ 64 in
       let count : c ≡ length (list y) = (let l = ap length longer ∙ length-append r.log es in omega arith) in
       let added_is : drop (length v.seen) (list y) ≡ es = ap (drop (length v.seen)) adds ∙ drop-append_seam v.seen es in
-      let keep : (x : ℕ) → x ≢ v.caller → entries_of x (drop base (list y)) ≡ entries_of x (drop base r.log) = λ x ne. ap (λ (l : List (Entry T)). entries_of x (drop base l)) longer ∙ more r.log es x r.begun (others x ne) in
+      let keep : (x : ℕ) → x ≢ v.caller → entries_of x (drop base (list y)) ≡ entries_of x (drop base r.log) = λ x ne. ap (λ (l : List (ℕ × T)). entries_of x (drop base l)) longer ∙ more r.log es x r.begun (others x ne) in
       let all : v.own ++ drop (length v.seen) (list y) ≡ entries_of v.caller (drop base (list y)) =
-      ap (λ (l : List (Entry T)). v.own ++ l) added_is ∙ ((λ i. (me.caller live).2 i ++ sym own i)
-      ∙ (sym (filter-append (λ e. eqb e.caller v.caller) (drop base r.log) es) ∙ (ap (entries_of v.caller) (sym (drop-append-le base r.log es r.begun)) ∙ ap (λ (l : List (Entry T)). entries_of v.caller (drop base l)) (sym longer)))) in
-      let begins : (seen : List (Entry T)) → Begins seen r.log → Begins seen (list y) = λ seen b. (b.0 ++ es, longer ∙ (ap (λ (l : List (Entry T)). l ++ es) b.1 ∙ append_assoc seen b.0 es)) in
+      ap (λ (l : List (ℕ × T)). v.own ++ l) added_is ∙ ((λ i. (me.caller live).2 i ++ sym own i)
+      ∙ (sym (filter-append (λ (e : ℕ × T). eqb e.0 v.caller) (drop base r.log) es) ∙ (ap (entries_of v.caller) (sym (drop-append-le base r.log es r.begun)) ∙ ap (λ (l : List (ℕ × T)). entries_of v.caller (drop base l)) (sym longer)))) in
+      let begins : (seen : List (ℕ × T)) → Begins seen r.log → Begins seen (list y) = λ seen b. (b.0 ++ es, longer ∙ (ap (λ (l : List (ℕ × T)). l ++ es) b.1 ∙ append_assoc seen b.0 es)) in
       let begun : base ≤ length (list y) = (let b = r.begun in let l = ap length longer ∙ length-append r.log es in omega arith) in
       let new : K record { words = r.next ∷ r.serving ∷ c ∷ []; homes = none ∷ []; views = set s.views id w } = record {
         next = r.next;
@@ -303,7 +302,7 @@ module _ {M O T : Type 0} (opening : M → O) (list : M → List (Entry T)) (o :
       shaped id (v, (0, y) ∷ []) 2 (λ n. (n + k) % 2 ^ 64) (Counts opening list (step slots 2 k 0 none) (v, (0, y) ∷ [])) s.views s.words (r.next ∷ r.serving ∷ length r.log ∷ []) s.homes (none ∷ []) r.words (r.homes ∙ ap (λ (h : maybe.Option M). h ∷ []) turn.3)
       (w, keeps, tt, new, λ z e. ap (λ (x : M). let u : V = with_list (list x) v in (u, (0, y) ∷ [])) (same_held y z e))
 
-  pub counts : (slots id : ℕ) (v : Sat) (y : M) (es : List (Entry T)) (k : ℕ) → v.0.live ≡ true → v.0.turn ≡ true → v.1 ≡ (0, y) ∷ [] → length (list y) < 2 ^ 32 → list y ≡ v.0.seen ++ es → k ≡ length es
+  pub counts : (slots id : ℕ) (v : Sat) (y : M) (es : List (ℕ × T)) (k : ℕ) → v.0.live ≡ true → v.0.turn ≡ true → v.1 ≡ (0, y) ∷ [] → length (list y) < 2 ^ 32 → list y ≡ v.0.seen ++ es → k ≡ length es
       → entries_of v.0.caller es ≡ es → ((x : ℕ) → x ≢ v.0.caller → entries_of x es ≡ []) → Allows K slots id v 2 (λ n. (n + k) % 2 ^ 64) (Counts opening list (step slots 2 k 0 none) v)
   counts slots id v y es k live on held short adds many own others =
       subst (λ (l : List (ℕ × M)). Allows K slots id (v.0, l) 2 (λ n. (n + k) % 2 ^ 64) (Counts opening list (step slots 2 k 0 none) (v.0, l))) (sym held) (counts_held slots id v.0 y es k live on short adds many own others)
@@ -461,10 +460,10 @@ module _ {M O T : Type 0} (opening : M → O) (list : M → List (Entry T)) (o :
   moved_else : (other id : ℕ) (owner : ℕ → ℕ) (y j : ℕ) → j ≢ other → owner y ≡ j → moved other id owner y ≡ j
   moved_else other id owner y j ne e = ap (λ (b : Bool). cond b id (owner y)) (ne_eqb (owner y) other (λ is. ne (sym e ∙ is))) ∙ e
 
-  begins_longer : (xs ys log : List (Entry T)) → Begins xs log → Begins ys log → Begins (longer xs ys) log
+  begins_longer : (xs ys log : List (ℕ × T)) → Begins xs log → Begins ys log → Begins (longer xs ys) log
   begins_longer xs ys log a b = elim (ltb (length xs) (length ys)) as (λ t. Begins (cond t ys xs) log) [ true ↦ b | false ↦ a ]
 
-  begins_shorter : (xs ys log : List (Entry T)) → Begins xs log → Begins ys log → Begins (shorter xs ys) log
+  begins_shorter : (xs ys log : List (ℕ × T)) → Begins xs log → Begins ys log → Begins (shorter xs ys) log
   begins_shorter xs ys log a b = elim (ltb (length xs) (length ys)) as (λ t. Begins (cond t xs ys) log) [ true ↦ a | false ↦ b ]
 
   -- of what a seat was told and what it sees, the shorter begins the longer
@@ -593,10 +592,10 @@ module _ {M O T : Type 0} (opening : M → O) (list : M → List (Entry T)) (o :
       (or_cases (eqb x v.caller) (has x v.spare || has x v.retired) (all x (subst (λ (n : ℕ). x < n) (sym fixed.2) lt))) in
       let here : (home : maybe.Option M) → home ≡ r.home → Homed opening list o r.log s.views home → (opening y ≡ o) × (list y ≡ r.log) = elim_home s r id v at rests owned y xs there last.4 in
       let h = here r.home refl r.homed in
-      ((fixed.0 ∙ ap (λ (p : O). Some p) (sym h.0)), subst (λ (es : List (Entry T)). Begins v.seen es) (sym h.1) me.seen, subst (λ (es : List (Entry T)). IsOwn v es) (sym h.1) (own_to v base r.log fixed.1 r.begun (me.caller rests.0).2))
+      ((fixed.0 ∙ ap (λ (p : O). Some p) (sym h.0)), subst (λ (es : List (ℕ × T)). Begins v.seen es) (sym h.1) me.seen, subst (λ (es : List (ℕ × T)). IsOwn v es) (sym h.1) (own_to v base r.log fixed.1 r.begun (me.caller rests.0).2))
 
-module _ {M O T : Type 0} (opening : M → O) (list : M → List (Entry T)) where
-  begins_both : (xs ys : List (Entry T)) (b : Bool) → ltb (length xs) (length ys) ≡ b → (length (cond b xs ys) ≤ length (cond b ys xs) → Begins (cond b xs ys) (cond b ys xs)) → Begins xs (cond b ys xs) × Begins ys (cond b ys xs)
+module _ {M O T : Type 0} (opening : M → O) (list : M → List (ℕ × T)) where
+  begins_both : (xs ys : List (ℕ × T)) (b : Bool) → ltb (length xs) (length ys) ≡ b → (length (cond b xs ys) ≤ length (cond b ys xs) → Begins (cond b xs ys) (cond b ys xs)) → Begins xs (cond b ys xs) × Begins ys (cond b ys xs)
   begins_both xs ys true is f = let lt = ltb-true (length xs) (length ys) is in (f (omega arith), ([], sym (append-nil ys)))
   begins_both xs ys false is f = let le = ltb-false (length xs) (length ys) is in (([], sym (append-nil xs)), f le)
 
@@ -604,7 +603,7 @@ module _ {M O T : Type 0} (opening : M → O) (list : M → List (Entry T)) wher
   joins_both v w a b is then learnt =
       let learnt' : length (shorter v.seen w.seen) ≤ length (longer v.seen w.seen) → Begins (shorter v.seen w.seen) (longer v.seen w.seen) =
       subst (λ (u : View O T). length u.told ≤ length u.seen → Begins u.told u.seen) is learnt in
-      subst (λ (es : List (Entry T)). Begins v.seen es × Begins w.seen es) (sym (ap (λ (u : View O T). u.seen) (then ∙ ap (λ (u : View O T). compared_view u) is)))
+      subst (λ (es : List (ℕ × T)). Begins v.seen es × Begins w.seen es) (sym (ap (λ (u : View O T). u.seen) (then ∙ ap (λ (u : View O T). compared_view u) is)))
       (begins_both v.seen w.seen (ltb (length v.seen) (length w.seen)) refl learnt')
 
   pub joins_own : (v w a b : View O T) → a ≡ merged_view v w → b ≡ compared_view a → v.live ≡ true → (a.live ≡ true → IsOwn a a.seen) → IsOwn b b.seen
@@ -646,39 +645,39 @@ module _ {M O T : Type 0} (opening : M → O) (list : M → List (Entry T)) wher
 
 -- a list with one entry more, or none
 module _ {T : Type 0} where
-  own_added : (xs own zs : List (Entry T)) (b : Bool) (e : Entry T) → zs ≡ added xs b e → own ++ drop (length xs) zs ≡ added own b e
-  own_added xs own zs true e is = ap (λ (l : List (Entry T)). own ++ drop (length xs) l) is ∙ ap (λ (l : List (Entry T)). own ++ l) (drop-append_seam xs (e ∷ []))
-  own_added xs own zs false e is = ap (λ (l : List (Entry T)). own ++ drop (length xs) l) is ∙ (ap (λ (l : List (Entry T)). own ++ l) (drop_all xs) ∙ append-nil own)
+  own_added : (xs own zs : List (ℕ × T)) (b : Bool) (e : ℕ × T) → zs ≡ added xs b e → own ++ drop (length xs) zs ≡ added own b e
+  own_added xs own zs true e is = ap (λ (l : List (ℕ × T)). own ++ drop (length xs) l) is ∙ ap (λ (l : List (ℕ × T)). own ++ l) (drop-append_seam xs (e ∷ []))
+  own_added xs own zs false e is = ap (λ (l : List (ℕ × T)). own ++ drop (length xs) l) is ∙ (ap (λ (l : List (ℕ × T)). own ++ l) (drop_all xs) ∙ append-nil own)
 
-  all_added : (xs own zs : List (Entry T)) (b : Bool) (by base : ℕ) (x : T) → base ≤ length xs → own ≡ entries_of by (drop base xs) → zs ≡ added xs b (entry by x) → added own b (entry by x) ≡ entries_of by (drop base zs)
+  all_added : (xs own zs : List (ℕ × T)) (b : Bool) (by base : ℕ) (x : T) → base ≤ length xs → own ≡ entries_of by (drop base xs) → zs ≡ added xs b (entry by x) → added own b (entry by x) ≡ entries_of by (drop base zs)
   all_added xs own zs true by base x le all is =
-      let e : Entry T = entry by x in
+      let e : ℕ × T = entry by x in
       let one : entries_of by (e ∷ []) ≡ e ∷ [] = ap (λ (b : Bool). cond b (e ∷ []) []) (eq-eqb by by refl) in
-      (λ i. all i ++ sym one i) ∙ (sym (filter-append (λ f. eqb f.caller by) (drop base xs) (e ∷ [])) ∙ (ap (entries_of by) (sym (drop-append-le base xs (e ∷ []) le)) ∙ ap (λ (l : List (Entry T)). entries_of by (drop base l)) (sym is)))
-  all_added xs own zs false by base x le all is = all ∙ ap (λ (l : List (Entry T)). entries_of by (drop base l)) (sym is)
+      (λ i. all i ++ sym one i) ∙ (sym (filter-append (λ (f : ℕ × T). eqb f.0 by) (drop base xs) (e ∷ [])) ∙ (ap (entries_of by) (sym (drop-append-le base xs (e ∷ []) le)) ∙ ap (λ (l : List (ℕ × T)). entries_of by (drop base l)) (sym is)))
+  all_added xs own zs false by base x le all is = all ∙ ap (λ (l : List (ℕ × T)). entries_of by (drop base l)) (sym is)
 
-  added_le : (base : ℕ) (xs zs : List (Entry T)) (b : Bool) (e : Entry T) → base ≤ length xs → zs ≡ added xs b e → base ≤ length zs
+  added_le : (base : ℕ) (xs zs : List (ℕ × T)) (b : Bool) (e : ℕ × T) → base ≤ length xs → zs ≡ added xs b e → base ≤ length zs
   added_le base xs zs true e le is = let l = ap length is ∙ length-append xs (e ∷ []) in omega arith
   added_le base xs zs false e le is = let l = ap length is in omega arith
 
-  added_tail : (xs : List (Entry T)) (b : Bool) (e : Entry T) → added xs b e ≡ xs ++ added [] b e
+  added_tail : (xs : List (ℕ × T)) (b : Bool) (e : ℕ × T) → added xs b e ≡ xs ++ added [] b e
   added_tail xs true e = refl
   added_tail xs false e = sym (append-nil xs)
 
   calls_tail : (b : Bool) (by : ℕ) (x : T) → entries_of by (added [] b (entry by x)) ≡ added [] b (entry by x)
-  calls_tail true by x = let e : Entry T = entry by x in ap (λ (t : Bool). cond t (e ∷ []) []) (eq-eqb by by refl)
+  calls_tail true by x = let e : ℕ × T = entry by x in ap (λ (t : Bool). cond t (e ∷ []) []) (eq-eqb by by refl)
   calls_tail false by x = refl
 
   calls_other : (b : Bool) (n by : ℕ) (x : T) → n ≢ by → entries_of n (added [] b (entry by x)) ≡ []
-  calls_other true n by x ne = let e : Entry T = entry by x in ap (λ (t : Bool). cond t (e ∷ []) []) (ne_eqb by n (λ is. ne (sym is)))
+  calls_other true n by x ne = let e : ℕ × T = entry by x in ap (λ (t : Bool). cond t (e ∷ []) []) (ne_eqb by n (λ is. ne (sym is)))
   calls_other false n by x ne = refl
 
 -- what a whole call tells
-module _ {M O T : Type 0} (opening : M → O) (list : M → List (Entry T)) where
+module _ {M O T : Type 0} (opening : M → O) (list : M → List (ℕ × T)) where
   abbrev Sit : Type 0
   Sit = Me M (View O T)
 
-  pub tells : {Y : Type 0} → (allows : O → List (Entry T) → ℕ → T → Y → Type 0) (records : O → T → Y → Bool) → (v : View O T) (d t s n p : Sit) (ticket : ℕ) (y y' z : M) (by : ℕ) (x : T) (reply : Y) (front : ℕ) → Rests v → v.caller ≡ by → d ≡ (with_ticket ticket v, []) → Takes opening list d y t → t.1 ≡ (0, y') ∷ [] → s.0 ≡ t.0
+  pub tells : {Y : Type 0} → (allows : O → List (ℕ × T) → ℕ → T → Y → Type 0) (records : O → T → Y → Bool) → (v : View O T) (d t s n p : Sit) (ticket : ℕ) (y y' z : M) (by : ℕ) (x : T) (reply : Y) (front : ℕ) → Rests v → v.caller ≡ by → d ≡ (with_ticket ticket v, []) → Takes opening list d y t → t.1 ≡ (0, y') ∷ [] → s.0 ≡ t.0
       → allows (opening y') (list y') by x reply → list z ≡ added (list y') (records (opening y') x reply) (entry by x) → front ≡ length (list z) → n.0 ≡ with_list (list z) s.0 → p.0 ≡ without_ticket n.0
       → Stepped allows records (opening y) v p.0 x reply front
   tells allows records v d t s n p ticket y y' z by x reply front rests named drawn took held kept answer grew long counted_is passed_is =
@@ -705,16 +704,16 @@ module _ {M O T : Type 0} (opening : M → O) (list : M → List (Entry T)) wher
 
   pub adds_up : (v : View O T) (d t s : Sit) (ticket : ℕ) (y y' z : M) (by : ℕ) (x : T) (b : Bool) (before after : ℕ) → v.caller ≡ by → d ≡ (with_ticket ticket v, []) → t ≡ (with_turn (list y) d.0, (0, y) ∷ d.1) → t.1 ≡ (0, y') ∷ [] → s.0 ≡ t.0
       → list z ≡ added (list y') b (entry by x) → before ≡ length (list y') → after ≡ length (list z)
-      → (es : List (Entry T)) × (list z ≡ s.0.seen ++ es) × (after - before ≡ length es) × (entries_of s.0.caller es ≡ es) × ((n : ℕ) → n ≢ s.0.caller → entries_of n es ≡ [])
+      → (es : List (ℕ × T)) × (list z ≡ s.0.seen ++ es) × (after - before ≡ length es) × (entries_of s.0.caller es ≡ es) × ((n : ℕ) → n ≢ s.0.caller → entries_of n es ≡ [])
   adds_up v d t s ticket y y' z by x b before after named drawn took held kept grew short long =
-      let es : List (Entry T) = added [] b (entry by x) in
+      let es : List (ℕ × T) = added [] b (entry by x) in
       let t_is : t ≡ (with_turn (list y) (with_ticket ticket v), (0, y) ∷ []) = took ∙ ap (λ (m : Sit). let u : Sit = (with_turn (list y) m.0, (0, y) ∷ m.1) in u) drawn in
       let same : y' ≡ y = ap (λ (l : List (ℕ × M)). (get_or l 0 (0, y)).1) (sym held ∙ ap (λ (m : Sit). m.1) t_is) in
       let seen : s.0.seen ≡ list y' = ap (λ (u : View O T). u.seen) (kept ∙ ap (λ (m : Sit). m.0) t_is) ∙ ap list (sym same) in
       let caller : s.0.caller ≡ by = ap (λ (u : View O T). u.caller) (kept ∙ ap (λ (m : Sit). m.0) t_is) ∙ named in
       let grown : list z ≡ list y' ++ es = grew ∙ added_tail (list y') b (entry by x) in (
         es,
-        grown ∙ ap (λ (l : List (Entry T)). l ++ es) (sym seen),
+        grown ∙ ap (λ (l : List (ℕ × T)). l ++ es) (sym seen),
         (let l = ap length grown ∙ length-append (list y') es in omega arith),
         ap (λ (n : ℕ). entries_of n es) caller ∙ calls_tail b by x,
         (λ n ne. calls_other b n by x (λ is. ne (is ∙ sym caller))),

@@ -4,7 +4,6 @@ use mathlib.Core.Option.{some, none, some-injective, some-ne-none}
 use mathlib.Core.Option as maybe
 use lib.ListN.{get_elem?}
 use Rattle.atomic_table.specs.Table.{State, Me, Allows, Splits, Joins, Final, Seen}
-use Rattle.bench_lock.specs.declared.entry.Entry.{Entry}
 use Rattle.bench_lock.specs.declared.view.View.{View}
 use Rattle.bench_lock.specs.Log.{entries_of, Begins, has}
 use Rattle.bench_lock.specs.Rule.{total, ticket_count, spare_count, SomeHasTurn, Rule}
@@ -12,7 +11,7 @@ use Rattle.bench_lock.specs.Views.{IsOwn}
 use Rattle.bench_lock.proofs.Own.{own_from, own_to}
 
 module _ {M O T : Type 0} where
-  pub record SeatOk (home : maybe.Option M) (serving out : ℕ) (log : List (Entry T)) (opening : O) (base callers : ℕ) (holder owner : ℕ → ℕ) (j : ℕ) (w : View O T) : Type 0 where
+  pub record SeatOk (home : maybe.Option M) (serving out : ℕ) (log : List (ℕ × T)) (opening : O) (base callers : ℕ) (holder owner : ℕ → ℕ) (j : ℕ) (w : View O T) : Type 0 where
     pub place : w.has_ticket ≡ true → (k : ℕ) × (k < out) × (holder k ≡ j) × (w.ticket ≡ (serving + k) % 2 ^ 64)
     pub live : w.has_ticket ≡ true → w.live ≡ true
     pub turn : w.turn ≡ true → (w.has_ticket ≡ true) × (w.ticket ≡ serving) × (w.seen ≡ log) × (home ≡ none)
@@ -25,16 +24,16 @@ module _ {M O T : Type 0} where
     pub apart : w.live ≡ true → has w.caller w.retired ≡ false
     pub known : w.live ≡ true → IsOwn w w.seen
 
-module _ {M O T : Type 0} (opening : M → O) (list : M → List (Entry T)) where
+module _ {M O T : Type 0} (opening : M → O) (list : M → List (ℕ × T)) where
   -- the machine at home has the list, or else a seat has the turn
-  abbrev pub Homed : O → List (Entry T) → List (View O T) → maybe.Option M → Type 0
+  abbrev pub Homed : O → List (ℕ × T) → List (View O T) → maybe.Option M → Type 0
   Homed o log views (some m) = (opening m ≡ o) × (list m ≡ log)
   Homed o log views none = SomeHasTurn views
 
   pub record Kept (o : O) (base callers : ℕ) (s : State M (View O T)) : Type 0 where
     pub next : ℕ
     pub serving : ℕ
-    pub log : List (Entry T)
+    pub log : List (ℕ × T)
     pub out : ℕ
     pub home : maybe.Option M
     pub holder : ℕ → ℕ
@@ -47,15 +46,15 @@ module _ {M O T : Type 0} (opening : M → O) (list : M → List (Entry T)) wher
     pub homed : Homed o log s.views home
     pub seats : (j : ℕ) (w : View O T) → get_elem? s.views j ≡ some w → SeatOk home serving out log o base callers holder owner j w
 
-  homed_of : (o : O) (log : List (Entry T)) (views : List (View O T)) (home : maybe.Option M) → ((m : M) → home ≡ some m → (opening m ≡ o) × (list m ≡ log)) → (home ≡ none → SomeHasTurn views) → Homed o log views home
+  homed_of : (o : O) (log : List (ℕ × T)) (views : List (View O T)) (home : maybe.Option M) → ((m : M) → home ≡ some m → (opening m ≡ o) × (list m ≡ log)) → (home ≡ none → SomeHasTurn views) → Homed o log views home
   homed_of o log views (some m) there away = there m refl
   homed_of o log views none there away = away refl
 
-  machine_of : (o : O) (log : List (Entry T)) (views : List (View O T)) (home : maybe.Option M) → Homed o log views home → (m : M) → home ≡ some m → (opening m ≡ o) × (list m ≡ log)
+  machine_of : (o : O) (log : List (ℕ × T)) (views : List (View O T)) (home : maybe.Option M) → Homed o log views home → (m : M) → home ≡ some m → (opening m ≡ o) × (list m ≡ log)
   machine_of o log views (some y) h m is = let same : y ≡ m = some-injective y m is in (ap opening (sym same) ∙ h.0, ap list (sym same) ∙ h.1)
   machine_of o log views none h m is = absurd (some-ne-none m (sym is))
 
-  turn_of : (o : O) (log : List (Entry T)) (views : List (View O T)) (home : maybe.Option M) → Homed o log views home → home ≡ none → SomeHasTurn views
+  turn_of : (o : O) (log : List (ℕ × T)) (views : List (View O T)) (home : maybe.Option M) → Homed o log views home → home ≡ none → SomeHasTurn views
   turn_of o log views (some y) h is = absurd (some-ne-none y is)
   turn_of o log views none h is = h
 

@@ -1,14 +1,13 @@
 -- What a whole step of a seat is. Source: own.
 use Rattle.std.specs.Prelude.{◌≡◌, ℕ, Bool, List, [], ◌++◌, length, Some}
-use Rattle.bench_lock.specs.declared.entry.Entry.{Entry}
 use Rattle.bench_lock.specs.declared.view.View.{View}
 use Rattle.bench_lock.specs.Log.{entry, added, entries_of}
 use Rattle.bench_lock.specs.Views.{IsOwn, OthersSince}
 
-module _ {O T Y : Type 0} (allows : O → List (Entry T) → ℕ → T → Y → Type 0) (records : O → T → Y → Bool) where
+module _ {O T Y : Type 0} (allows : O → List (ℕ × T) → ℕ → T → Y → Type 0) (records : O → T → Y → Bool) where
   -- What a step made of a seat's view v, which is w then. There is one list, `before`, from which the machine stepped
   pub record Stepped (o : O) (v w : View O T) (step : T) (reply : Y) (front : ℕ) : Type 0 where
-    pub before : List (Entry T)
+    pub before : List (ℕ × T)
     -- it is all that the seat had seen, with entries of others behind it: no entry of the seat's caller came between two steps of the seat
     pub others : OthersSince v before
     pub own_before : IsOwn v before
@@ -27,4 +26,4 @@ module _ {O T Y : Type 0} (allows : O → List (Entry T) → ℕ → T → Y →
   -- Where a seat steps, the machine's list is what the seat had seen, then entries of others, then the step where it is recorded; and the reply is the machine's just before it
   abbrev pub StepsAfterOthers : Type 0
   StepsAfterOthers = (o : O) (v w : View O T) (step : T) (reply : Y) (front : ℕ) → Stepped o v w step reply front
-      → (others : List (Entry T)) × (entries_of v.caller others ≡ []) × allows o (v.seen ++ others) v.caller step reply × (w.seen ≡ added (v.seen ++ others) (records o step reply) (entry v.caller step))
+      → (others : List (ℕ × T)) × (entries_of v.caller others ≡ []) × allows o (v.seen ++ others) v.caller step reply × (w.seen ≡ added (v.seen ++ others) (records o step reply) (entry v.caller step))

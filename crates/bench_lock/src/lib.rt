@@ -9,7 +9,6 @@
 #![tactic(auto)]
 
 mod applied;
-mod entry;
 mod laws;
 mod machine;
 mod rule;
@@ -20,7 +19,6 @@ mod tests;
 mod view;
 
 pub use applied::Applied;
-pub use entry::Entry;
 pub use laws::steps_after_others;
 pub use machine::Machine;
 pub use seats::{Seat, Shared};

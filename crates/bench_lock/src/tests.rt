@@ -34,7 +34,7 @@ fn one_seat(rt: HostRuntime) -> Result<(), Fail> {
     let counter = shared.close(seat);
     assert_eq!(rt; counter.length(), 999);
     for (k, entry) in (1..1_000_u32).zip(counter.entries()) {
-        assert_eq!(rt; (entry.caller, entry.step), (0, k));
+        assert_eq!(rt; *entry, (0, k));
     }
     Ok(())
 }

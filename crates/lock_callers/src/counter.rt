@@ -2,7 +2,7 @@
 ghost use Rattle.std.specs.Prelude.{◌≡◌, ◌^◌, ◌≤◌, ◌<◌, [], length, IfOk, vec_capacity};
 ghost use Rattle.lock_callers.specs.Counted.{Counted, Allowed, is_recorded, sum_of};
 
-use bench_lock::{Entry, Machine};
+use bench_lock::Machine;
 use std::alloc::{AllocError, Global};
 use std::marker::Model;
 
@@ -21,7 +21,7 @@ pub struct Bounds {
 pub struct Counter {
     bounds: Bounds,
     sum: u64,
-    log: Vec<Entry<u32>>,
+    log: Vec<(u32, u32)>,
 }
 
 impl Model for Counter {
@@ -51,7 +51,7 @@ impl Counter {
         self.sum
     }
 
-    pub fn entries(&self) -> &[Entry<u32>]
+    pub fn entries(&self) -> &[(u32, u32)]
         ensures { result.now ≡ self.now.list }
     {
         &self.log
@@ -83,7 +83,7 @@ impl Machine for Counter {
         if log.len() >= bounds.most as usize || u64::from(step) > bounds.limit - *sum {
             return None;
         }
-        log.push_reserved(Entry { caller, step });
+        log.push_reserved((caller, step));
         *sum += u64::from(step);
         Some(*sum)
     }

@@ -22,13 +22,10 @@ fn callers_in_threads(rt: HostRuntime) -> Result<(), Fail> {
     // each caller's steps, 1,000 to 1,999, add up to 1,000 * 2,999 / 2
     assert_eq!(rt; counter.sum(), 6 * 1_499_500);
     for caller in 0..CALLERS {
-        let own = counter
-            .entries()
-            .iter()
-            .filter(|entry| entry.caller == caller);
+        let own = counter.entries().iter().filter(|&&(by, _)| by == caller);
         let mut next = LEAST;
-        for entry in own {
-            assert_eq!(rt; entry.step, next, "of caller {caller}");
+        for &(_, step) in own {
+            assert_eq!(rt; step, next, "of caller {caller}");
             next += 1;
         }
         assert_eq!(rt; next, STEPS);
