@@ -4,9 +4,13 @@
 //! Each call but `in_tail` wants memory of 4 MiB. None takes memory.
 #![tactic(auto)]
 
-ghost use Rattle.std.specs.Prelude.{◌≡◌, ◌↔◌, IsTrue, length};
-ghost use Rattle.abort_reset.specs.Patches.{marked, job_at_front, idle_at_front, swept, InTail};
+ghost use Rattle.std.specs.Prelude.{◌≡◌, ◌+◌, ◌↔◌, IsTrue, length};
+ghost use Rattle.bench_words.specs.Memory.{word_at};
+ghost use Rattle.bench_words.specs.Views.{Wrote, WroteWithin};
+ghost use Rattle.host_map.specs.declared.TheConstants.{FRONT, FRONT_IDLE};
 ghost use Rattle.host_map.specs.Places.{IsCommandBlock};
+ghost use Rattle.cmd_block.specs.Block.{offset};
+ghost use Rattle.abort_reset.specs.Patches.{marked, job_at_front, idle_at_front, swept, Marked, JobAtFront, Swept, InTail};
 
 use bench_words::Words;
 use cmd_block::{Field, SWEPT, write};
@@ -22,6 +26,8 @@ pub fn mark(words: &mut Words, block: u32)
     requires memory { length words.old ≡ 0x400000 }
     requires block { IsCommandBlock block }
     ensures wrote { words.new ≡ marked words.old block }
+    ensures words { Marked (word_at words.old) (word_at words.new) block }
+    ensures within { WroteWithin (word_at words.old) (word_at words.new) (block + offset Field.Start) (block + offset Field.Restart + 4) }
     ensures size { length words.new ≡ length words.old }
 {
     write(words, block, Field::Start, label(Name::Cancel));
@@ -33,6 +39,7 @@ pub fn mark(words: &mut Words, block: u32)
 pub fn front_job(words: &mut Words, target: u8)
     requires { length words.old ≡ 0x400000 }
     ensures wrote { words.new ≡ job_at_front words.old target }
+    ensures words { JobAtFront (word_at words.old) (word_at words.new) target }
     ensures size { length words.new ≡ length words.old }
 {
     write(words, JOB, Field::Sel, u32::from(target) * 0x1_0000);
@@ -43,6 +50,7 @@ pub fn front_job(words: &mut Words, target: u8)
 pub fn front_idle(words: &mut Words)
     requires { length words.old ≡ 0x400000 }
     ensures wrote { words.new ≡ idle_at_front words.old }
+    ensures words { Wrote (word_at words.old) (word_at words.new) FRONT FRONT_IDLE }
     ensures size { length words.new ≡ length words.old }
 {
     words.set(FRONT, FRONT_IDLE);
@@ -54,6 +62,8 @@ pub fn sweep(words: &mut Words, block: u32)
     requires memory { length words.old ≡ 0x400000 }
     requires block { IsCommandBlock block }
     ensures wrote { words.new ≡ swept words.old block }
+    ensures words { Swept (word_at words.old) (word_at words.new) block }
+    ensures within { WroteWithin (word_at words.old) (word_at words.new) (block + offset Field.State) (block + offset Field.Gate + 4) }
     ensures size { length words.new ≡ length words.old }
 {
     write(words, block, Field::State, SWEPT);

@@ -1,9 +1,9 @@
 -- After a repair the active data pointer denotes the rest of the stopped move and all that followed it, and the saved
 -- one what it did.
-use Rattle.std.proofs.Common.{◌≡◌, ◌≢◌, ℕ, zero, suc, ◌+◌, ◌-◌, ◌<◌, ◌≤◌, ◌^◌, ◌⊎◌, inl, inr, List, length, drop, Some, refl, sym, ap, subst, ◌∙◌, arith}
+use Rattle.std.proofs.Common.{◌≡◌, ◌≢◌, ℕ, zero, suc, ◌+◌, ◌-◌, ◌%◌, ◌<◌, ◌≤◌, ◌^◌, ◌⊎◌, inl, inr, List, length, drop, Some, refl, sym, ap, subst, ◌∙◌, arith}
 use Rattle.bench_words.specs.Memory.{word_at, put_word}
 use Rattle.std.proofs.lemmas.Bool.Decides.{nat_tests}
-use Rattle.bench_words.specs.Views.{Wrote}
+use Rattle.bench_words.specs.Views.{Wrote, WroteWithin}
 use Rattle.bench_words.proofs.MemoryLaws.{length-put_word}
 use Rattle.host_map.specs.Places.{IsBlockPlace}
 use Rattle.cmd_block.specs.Block.{offset, field_of}
@@ -52,6 +52,20 @@ again-context w n block v c r =
       return = r.other (block + offset (CtxReturn c)) (omega arith);
     }
 
+-- a move moved nothing or something
+all_or_some : (left count : ℕ) → left ≤ count → (left ≡ count) ⊎ (left ≢ count)
+all_or_some left count h = grind arith
+
+-- no word outside LASTP and the contexts is written
+pub repaired-within : (w n : ℕ → ℕ) (block dsp left : ℕ) (x : DataMove) → left ≤ count_of w block x.entry → IsRepaired w n block dsp left x
+    → WroteWithin w n (block + offset Lastp) (block + offset (CtxReturn 1) + 4)
+repaired-within w n block dsp left x most r =
+    let k : free_context (field w block Savep) < 2 = free_below (field w block Savep) in
+    elim (all_or_some left (count_of w block x.entry) most) [
+      | inl e ↦ record { other = λ a out. (r.again e).other a (omega arith) }
+      | inr e ↦ record { other = λ a out. (r.rest e).other a (omega arith) (omega (arith, k)) }
+    ]
+
 -- ---- LASTP
 
 -- what follows the stopped entry, by the address at which the data go on
@@ -66,8 +80,9 @@ rest-last w n block dsp left k x far b h most r =
     let m = count_of w block x.entry - left in
     let f = following-kept w n block (return_of w block dsp x.entry) s ∙ behind-return w block dsp x x.entry far h refl in
     let c : count_of w block x.entry - (count_of w block x.entry - left) ≡ left = omega arith in
+    let small : left % 2 ^ 24 ≡ left = omega arith in
     let d = rw c at (drop-entry w block (count_of w block x.entry - left) x.entry (move_stands (dsp - 8) x h).0 (omega arith)) in
-    rw (r.last, move-context x.phase k b, h, r.count, r.address, r.return, f) (sym d)
+    rw (r.last, move-context x.phase k b, h, r.count, small, r.address, r.return, f) (sym d)
 
 again-last : (w n : ℕ → ℕ) (block dsp left : ℕ) (x : DataMove) → move_at (dsp - 8) ≡ Some x → left ≡ count_of w block x.entry → Wrote w n (block + offset Lastp) (dsp - 8)
     → remain n block (field n block Lastp) ≡ drop (count_of w block x.entry - left) (remain w block (dsp - 8))
@@ -75,9 +90,6 @@ again-last w n block dsp left x h all r =
     let z : count_of w block x.entry - left ≡ 0 = omega arith in
     let k = remain-kept w n block (dsp - 8) (again-segments w n block (dsp - 8) r) (λ c y b e f. again-context w n block (dsp - 8) c r) in
     rw (r.same, z) k
-
-all_or_some : (left count : ℕ) → left ≤ count → (left ≡ count) ⊎ (left ≢ count)
-all_or_some left count h = grind arith
 
 pub repaired-last : (w n : ℕ → ℕ) (block dsp left : ℕ) (x : DataMove) → 8 ≤ dsp → move_at (dsp - 8) ≡ Some x → left ≤ count_of w block x.entry → IsRepaired w n block dsp left x
     → remain n block (field n block Lastp) ≡ drop (count_of w block x.entry - left) (remain w block (dsp - 8))

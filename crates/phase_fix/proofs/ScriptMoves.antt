@@ -1,6 +1,6 @@
 -- The data moves are those of the script, in both versions: each stands where the script has MOVE FROM its entry, WHEN
 -- its phase, and nowhere else has the script a move of a data phase.
-use Rattle.std.proofs.Common.{◌≡◌, ℕ, zero, suc, pos, ◌*◌, ◌/◌, ◌%◌, ◌<◌, ◌⊎◌, inl, inr, Bool, true, false, ◌&&◌, not, nat_eq, nat_lt, Option, Some, None, refl, arith}
+use Rattle.std.proofs.Common.{◌≡◌, ℕ, zero, suc, pos, ◌*◌, ◌/◌, ◌%◌, ◌<◌, ◌⊎◌, inl, inr, Bool, true, false, ◌&&◌, not, nat_eq, Option, Some, None, refl, arith}
 use Rattle.std.specs.Prelude.{if◌then◌else◌, slice_index_or}
 use Rattle.std.proofs.lemmas.Bool.{cases_order, false≢true}
 use Rattle.std.proofs.lemmas.Bool.Decides.{nat_tests}
@@ -15,22 +15,9 @@ use Rattle.phase_fix.specs.declared.moves.DataPhase.TheVariants.{In, Out}
 use Rattle.phase_fix.specs.declared.moves.Entry.{Entry}
 use Rattle.phase_fix.specs.declared.moves.Entry.TheVariants.{Segment, Context}
 use Rattle.phase_fix.specs.declared.moves.DataMove.{DataMove}
+use Rattle.phase_fix.specs.InScript.{phase_code, instruction_of, is_data, FindsMoves, MissesNone}
 use Rattle.phase_fix.specs.Moves.{IsEntry, count_field, move_at}
 use Rattle.phase_fix.proofs.MoveLaws.{entry_place, move_stands}
-
--- the code of a phase
-abbrev pub phase_code : DataPhase → ℕ
-phase_code In = 1
-phase_code Out = 0
-
--- the instruction of a data move
-abbrev pub instruction_of : DataMove → Op
-instruction_of x = MoveFrom (pos (offset (count_field x.entry))) (phase_code x.phase)
-
--- whether an instruction is a move by table in a data phase
-abbrev pub is_data : Op → Bool
-is_data (MoveFrom o p) = nat_lt p 2
-is_data op = false
 
 -- ---- a test of the whole script
 
@@ -112,16 +99,16 @@ aligned In (Context k) h = (omega arith, omega arith)
 aligned Out (Context k) h = (omega arith, omega arith)
 
 -- at a data move the script has its instruction
-pub script-move : (a version : ℕ) (x : DataMove) → move_at a ≡ Some x → (a % 8 ≡ 0) × (a / 8 < 151) × (instruction (a / 8) version ≡ instruction_of x)
-script-move a version x h =
+pub finds_moves : FindsMoves
+finds_moves a version x h =
     let s = move_stands a x h in
     let l = rw s.1 at (aligned x.phase x.entry s.0) in
     let e : 8 * (a / 8) ≡ a = omega (arith, l.0) in
     let t = rw (e, h) at (agree_at (a / 8) version l.1) in
-    (l.0, l.1, same-is (instruction (a / 8) version) x t)
+    record { aligned = l.0; within = l.1; stands = same-is (instruction (a / 8) version) x t }
 
--- where the script has no data move, its instruction is none of a data phase
-pub script-no_move : (k version : ℕ) → k < 151 → move_at (8 * k) ≡ None → is_data (instruction k version) ≡ false
-script-no_move k version h none =
+-- elsewhere its instruction is none of a data phase
+pub misses_none : MissesNone
+misses_none k version h none =
     let t = rw none at (agree_at k version h) in
     not-is (is_data (instruction k version)) t

@@ -1,3 +1,4 @@
+pub mod InScript
 pub mod Moves
 pub mod Remain
 pub mod Repair

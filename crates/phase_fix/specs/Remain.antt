@@ -1,5 +1,5 @@
 -- Data pointers: script addresses that say what of a command is still to be moved (own). Memory is seen by its words.
-use Rattle.std.specs.Prelude.{◌≢◌, ℕ, zero, suc, ◌+◌, ◌-◌, List, [], ◌++◌, Option, Some, None}
+use Rattle.std.specs.Prelude.{◌≢◌, ℕ, zero, suc, ◌+◌, ◌-◌, ◌%◌, ◌^◌, List, [], ◌++◌, Option, Some, None}
 use Rattle.std.specs.List.{range_with_len}
 use Rattle.cmd_block.specs.Block.{offset}
 use Rattle.cmd_block.specs.declared.Field.{Field}
@@ -15,9 +15,9 @@ use Rattle.phase_fix.specs.Moves.{count_field, address_field, move_at}
 abbrev pub field : (ℕ → ℕ) → ℕ → Field → ℕ
 field w block f = w (block + offset f)
 
--- the table entry of a data move
+-- the table entry of a data move: its count is bits 23 to 0 of the first word (SYM53C810A), its address the second word
 abbrev pub count_of : (ℕ → ℕ) → ℕ → Entry → ℕ
-count_of w block e = field w block (count_field e)
+count_of w block e = field w block (count_field e) % 2 ^ 24
 
 abbrev pub address_of : (ℕ → ℕ) → ℕ → Entry → ℕ
 address_of w block e = field w block (address_field e)

@@ -1,7 +1,9 @@
 -- What the repair of a broken-off data move writes (own).
-use Rattle.std.specs.Prelude.{◌≡◌, ◌≢◌, ℕ, ◌+◌, ◌-◌, ◌<◌, ◌≤◌, ◌^◌, ◌||◌, nat_eq, if◌then◌else◌, List}
+use Rattle.std.specs.Prelude.{◌≡◌, ◌≢◌, ℕ, ◌+◌, ◌-◌, ◌<◌, ◌≤◌, ◌^◌, ◌||◌, nat_eq, if◌then◌else◌, List, IsSome}
+use Rattle.std.specs.Option.{ForSome}
 use Rattle.bench_words.specs.Memory.{word_at, put_word}
 use Rattle.bench_words.specs.Views.{Apart, Outside, Wrote}
+use Rattle.host_map.specs.Places.{IsBlockPlace}
 use Rattle.cmd_block.specs.Block.{offset, field_of}
 use Rattle.cmd_block.specs.declared.Field.TheVariants.{Lastp, Savep, CtxCount, CtxAt, CtxReturn}
 use Rattle.driver_script.specs.Script.{label_of}
@@ -9,7 +11,7 @@ use Rattle.driver_script.specs.declared.labels.Name.TheVariants as label
 use Rattle.phase_fix.specs.declared.moves.Entry.{Entry}
 use Rattle.phase_fix.specs.declared.moves.Entry.TheVariants.{Segment, Context}
 use Rattle.phase_fix.specs.declared.moves.DataMove.{DataMove}
-use Rattle.phase_fix.specs.Moves.{context_label}
+use Rattle.phase_fix.specs.Moves.{context_label, move_at}
 use Rattle.phase_fix.specs.Remain.{count_of, address_of, field, ReturnsToSegments}
 
 -- A move that stopped with so many bytes left can be repaired: its entry has no fewer bytes and ends below 2^32, and
@@ -18,6 +20,14 @@ pub record IsRepairable (w : ℕ → ℕ) (block left : ℕ) (e : Entry) : Type 
   pub count : left ≤ count_of w block e
   pub ends : address_of w block e + count_of w block e < 2 ^ 32
   pub returns : ReturnsToSegments w block
+
+-- The chip stopped, with so many bytes left, where there is something to repair: DSA is a block place, and the
+-- instruction before DSP is a data move that can be repaired.
+pub record IsFixable (w : ℕ → ℕ) (block dsp left : ℕ) : Type 0 where
+  pub place : IsBlockPlace block
+  pub behind : 8 ≤ dsp
+  pub moved : IsSome (move_at (dsp - 8))
+  pub entry : ForSome (move_at (dsp - 8)) (λ x. IsRepairable w block left x.entry)
 
 -- the context to write: the one that the saved data pointer doesn't name, and 0 where it names none
 abbrev pub free_context : ℕ → ℕ

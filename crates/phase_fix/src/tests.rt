@@ -1,33 +1,18 @@
 //! A command of three segments, of 100, 300 and 112 bytes, whose moves are broken off again and again.
-ghost use Rattle.std.specs.Prelude.{IsTrue};
-ghost use Rattle.phase_fix.specs.Remain.{IsNoContext};
-
-use super::{FixEnd, fix};
-use crate::moves::move_at;
+use super::{FixEnd, can_fix, fix, move_at};
 use bench_words::Words;
-use cmd_block::{Field, read, write};
 use std::process::Abort;
 use std::test::Fail;
 
 const BLOCK: u32 = 0x1_0000;
 
-fn is_no_context(address: u32) -> bool
-    ensures { IsTrue result → IsNoContext address }
-{
-    address != 0x3e0 && address != 0x3f8 && address != 0x410 && address != 0x428
-}
-
-/// `fix`, where its conditions hold.
+/// `fix`, where it may be called.
 fn fixed(rt: &impl Abort, words: &mut Words, dsp: u32, dbc: u32) -> FixEnd {
     assert!(rt; words.len() == 0x40_0000 && dsp >= 8);
-    let Some(stopped) = move_at(dsp - 8) else {
+    let Some(_) = move_at(dsp - 8) else {
         return fix(words, BLOCK, dsp, dbc);
     };
-    let count = read(words, BLOCK, stopped.entry.count());
-    let address = read(words, BLOCK, stopped.entry.address());
-    assert!(rt; dbc <= count && address <= u32::MAX - count);
-    assert!(rt; is_no_context(read(words, BLOCK, Field::CtxReturn(0))));
-    assert!(rt; is_no_context(read(words, BLOCK, Field::CtxReturn(1))));
+    assert!(rt; can_fix(words, BLOCK, dsp, dbc));
     fix(words, BLOCK, dsp, dbc)
 }
 
@@ -47,7 +32,8 @@ fn contexts(rt: HostRuntime) -> Result<(), Fail> {
     for (address, word) in [
         (0x1_0008, 0x328),
         (0x1_000c, 0x328),
-        (0x1_00a8, 100),
+        // The chip takes bits 23 to 0 of this word.
+        (0x1_00a8, 0xff00_0064),
         (0x1_00ac, 0x20_0000),
         (0x1_00b0, 300),
         (0x1_00b4, 0x20_0200),
@@ -103,5 +89,45 @@ fn contexts(rt: HostRuntime) -> Result<(), Fail> {
         assert_eq!(rt; fixed(&rt, &mut words, dsp, 0), FixEnd::NotData(dsp));
     }
     assert_eq!(rt; word_at(&rt, &words, 0x1_0008), 0x3c0);
+    Ok(())
+}
+
+#[test]
+fn what_can_be_fixed(rt: HostRuntime) -> Result<(), Fail> {
+    let mut words = Words::new(rt.alloc(), 0x10_0000)?;
+    for (address, word) in [
+        (0x1_00b8, 0x0100_0200),
+        (0x1_00bc, 0x20_0000),
+        (0x1_02b8, 0x200),
+        (0x1_02bc, 0xffff_fe00),
+        (0x1_04b8, 0x200),
+        (0x1_04d8, 0x428),
+        (0x18b8, 0x200),
+    ] {
+        put(&rt, &mut words, address, word);
+    }
+    assert!(rt; words.len() == 0x40_0000);
+    // The last segment: block, DSP, DBC.
+    for (block, dsp, dbc, can) in [
+        (0x1_0000, 0x340, 0x200, true),
+        (0x1_0000, 0x340, 0x201, false),
+        (0x1_0000, 0x3c8, 0, true),
+        (0x1_0000, 0x3d0, 0, false),
+        (0x1_0000, 0x342, 0, false),
+        (0x1_0000, 7, 0, false),
+        // Its entry ends at 2^32; a context returns to a context.
+        (0x1_0200, 0x340, 0, false),
+        (0x1_0400, 0x340, 0, false),
+        // JOB's block is a block place; the other two are none.
+        (0x1800, 0x340, 0x200, true),
+        (0x1_0008, 0x340, 0, false),
+        (0x3_0000, 0x340, 0, false),
+    ] {
+        assert_eq!(rt;
+            can_fix(&words, block, dsp, dbc),
+            can,
+            "{block:x} at {dsp:x}"
+        );
+    }
     Ok(())
 }

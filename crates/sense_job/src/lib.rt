@@ -5,10 +5,13 @@
 #![tactic(auto)]
 
 ghost use Rattle.std.specs.Prelude.{◌≡◌, ◌+◌, length};
-ghost use Rattle.bench_words.specs.Memory.{bytes_at};
-ghost use Rattle.cmd_block.specs.declared.TheConstants.{SENSE as SENSE_AREA};
+ghost use Rattle.bench_words.specs.Memory.{word_at, bytes_at};
+ghost use Rattle.bench_words.specs.Views.{WroteWithin};
+ghost use Rattle.cmd_block.specs.declared.TheConstants.{CDB, SENSE as SENSE_AREA};
+ghost use Rattle.cmd_block.specs.Block.{offset, field_of};
 ghost use Rattle.host_map.specs.Places.{IsCommandBlock};
-ghost use Rattle.sense_job.specs.Turning.{turned, with_fields};
+ghost use Rattle.phase_fix.specs.Remain.{remain};
+ghost use Rattle.sense_job.specs.Turning.{turned, with_fields, sense_area, request_sense, Turned};
 
 use bench_words::Words;
 use cmd_block::{CDB, Field, LIVE, write};
@@ -21,13 +24,18 @@ const LAST_SEGMENT: u8 = 15;
 /// REQUEST SENSE of 18 bytes (SCSI-2, 8.2.14).
 const REQUEST_SENSE: [u8; 6] = [0x03, 0, 0, 0, 0x12, 0];
 
-/// Turns `block` into a REQUEST SENSE: START is SENSE, STATE 0, STATUS FFh, both data pointers and segment 15 stand for
-/// the 18 bytes of the sense area, and the command descriptor block is 03 00 00 00 12 00. All other words stay.
+/// Turns `block` into a REQUEST SENSE: START is SENSE, STATE 0, STATUS FFh, and the command descriptor block
+/// 03 00 00 00 12 00. Segment 15 is the sense area, and both data pointers denote its 18 bytes. All other words stay.
 pub fn turn(words: &mut Words, block: u32)
     requires memory { length words.old ≡ 0x400000 }
     requires block { IsCommandBlock block }
     ensures wrote { words.new ≡ turned words.old block }
+    ensures words { Turned (word_at words.old) (word_at words.new) block }
+    ensures within { WroteWithin (word_at words.old) (word_at words.new) (block + offset Field.Start) (block + CDB + 6) }
     ensures size { length words.new ≡ length words.old }
+    ensures command { bytes_at words.new (block + CDB) 6 ≡ request_sense }
+    ensures last { remain (word_at words.new) block (field_of words.new block Field.Lastp) ≡ sense_area block }
+    ensures saved { remain (word_at words.new) block (field_of words.new block Field.Savep) ≡ sense_area block }
 {
     let last_move = label(Name::Datain) + 8 * u32::from(LAST_SEGMENT);
     write(words, block, Field::Start, label(Name::Sense));

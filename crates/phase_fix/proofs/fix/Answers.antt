@@ -4,7 +4,7 @@ use Rattle.phase_fix.specs.declared.moves.DataMove.{DataMove}
 use Rattle.phase_fix.specs.Moves.{move_at}
 use Rattle.phase_fix.specs.Repair.{IsRepaired}
 use Rattle.phase_fix.proofs.MoveLaws.{move_stands}
-use Rattle.phase_fix.proofs.RepairLaws.{repaired-last, repaired-saved, repaired-returns}
+use Rattle.phase_fix.proofs.RepairLaws.{repaired-within, repaired-last, repaired-saved, repaired-returns}
 use Rattle.phase_fix.proofs.fix.Goals as goal
 
 pub repair-requires-clause-is : goal.repair-requires-clause-is
@@ -12,6 +12,11 @@ repair-requires-clause-is c = (move_stands (c.args.dsp - 8) c.in-Some.stopped (s
 
 pub repair-requires-clause-entry : goal.repair-requires-clause-entry
 repair-requires-clause-entry c = c.requires.entry c.in-Some.stopped (sym c.move_at.ensures.found ∙ c.in-Some.is)
+
+pub returns-clause-within : goal.returns-clause-within
+returns-clause-within c =
+    let h : move_at (c.args.dsp - 8) ≡ Some c.in-Some.stopped = sym c.move_at.ensures.found ∙ c.in-Some.is in
+    repaired-within (word_at c.args.words.now) (word_at c.repair.new.words) c.args.block c.args.dsp c.args.dbc c.in-Some.stopped (c.requires.entry c.in-Some.stopped h).count c.repair.ensures.words
 
 pub returns-clause-last : goal.returns-clause-last
 returns-clause-last c x h =
