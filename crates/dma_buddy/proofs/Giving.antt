@@ -86,6 +86,7 @@ module _ (s : Space) (r : IsRegion s) (c : Chunk) (out : IsOut s c) where
         (λ h. ⊎_elim (λ i. inr ((g.free q).0 i)) (λ e. inl e) ((a.free q).0 h)),
         (λ h. (a.free q).1 (⊎_elim (λ e. inr e) (λ i. inl ((g.free q).1 i)) h)),
       );
+      listed = a.listed;
     }
 
     old-or-new : (q : Chunk) → IsFree t q → (IsFree m q × IsFree s q) ⊎ (q ≡ w)

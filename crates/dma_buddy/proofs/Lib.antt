@@ -5,6 +5,7 @@ pub mod Intervals
 pub mod Layers
 pub mod Lists
 pub mod Marking
+pub mod OneRegion
 pub mod Places
 pub mod Sets
 pub mod Sizes

@@ -4,11 +4,11 @@ use Rattle.std.proofs.Math.Nat.{mul-mod_right}
 use Rattle.std.proofs.lemmas.Bool.{cases_lt, cases_order}
 use Rattle.dma_buddy.specs.declared.buddies.Chunk.{Chunk}
 use Rattle.dma_buddy.specs.Chunks.{IsChunkSize, IsSizeFor, Apart, IsWithin, buddy, joined, IsLeftOver}
-use Rattle.dma_buddy.specs.Regions.{Space, IsFree, IsListed, IsChunkOf, IsRegion, IsBestFor, Takes, Merges, Gives, LeavesOut, bytes_free}
+use Rattle.dma_buddy.specs.Regions.{Space, IsFree, IsChunkOf, IsRegion, IsBestFor, Takes, Merges, Gives, LiesInFree, LeavesOut, bytes_free}
 use Rattle.dma_buddy.specs.Marks.{Drops, Splits}
 use Rattle.dma_buddy.proofs.Sizes.{size-least, size-most, size-next, size-double, aligned-down, sum-aligned, multiple-of, lower-half, upper-half, same-chunk, buddy-of-buddy}
 use Rattle.dma_buddy.proofs.Sets.{same-members, same-space, same-or-not}
-use Rattle.dma_buddy.proofs.Intervals.{apart-sym, apart-within, not-apart-base, apart-not-within, chunk-of-same, positive}
+use Rattle.dma_buddy.proofs.Intervals.{apart-sym, apart-within, not-apart-base, apart-not-within, within-trans, chunk-of-same, positive}
 
 -- ---- what is left of a chunk that is split
 
@@ -89,14 +89,21 @@ module _ (s : Space) (len : ℕ) (c : Chunk) (t : Space) (r : IsRegion s) (k : T
       ((k.free (buddy q)).0 h))
       ((k.free q).0 g)
 
-  pub region-after-take : IsListed t.free → IsRegion t
-  region-after-take listed = record {
+  -- what is free afterwards lay in a free chunk
+  pub lay-before : (q d : Chunk) → IsFree t q → IsWithin d q → LiesInFree s d
+  lay-before q d h i = ⊎_elim
+      (λ o. (q, o.0, i))
+      (λ l. (k.whole, k.best.free, within-trans d q k.whole i (left-within k.whole c q whole-chunk.chunk.size l)))
+      ((k.free q).0 h)
+
+  pub region-after-take : IsRegion t
+  region-after-take = record {
     aligned = ap (λ b. b % 65536) k.place.0 ∙ r.aligned;
     fits = omega (arith, r.fits, k.place.0, k.place.1);
     chunks = chunks-after;
     apart = apart-after;
     merged = merged-after;
-    listed = listed;
+    listed = k.listed;
   }
 
   taken-chunk : IsChunkOf s c
@@ -111,9 +118,7 @@ module _ (s : Space) (len : ℕ) (c : Chunk) (t : Space) (r : IsRegion s) (k : T
 
   pub leaves-out : bytes_free t + c.size ≡ bytes_free s → LeavesOut s c t
   leaves-out bytes = record {
-    whole = k.whole;
-    free = k.best.free;
-    within = taken-within;
+    lay = (k.whole, k.best.free, taken-within);
     out = record {
       chunk = chunk-of-same s t c k.place taken-chunk;
       apart = λ d h. ⊎_elim
@@ -174,11 +179,11 @@ module _ (s : Space) (len : ℕ) (c : Chunk) (t : Space) (r : IsRegion s) (k : T
       (λ same. absurd (no-more b (same-chunk b k.whole e (omega arith)) m.0 m.1))
       (cases_lt b.size k.whole.size)
 
-  pub given-back : (u : Space) → Gives t c u → IsListed u.free → u ≡ s
-  given-back u g listed =
+  pub given-back : (u : Space) → Gives t c u → u ≡ s
+  given-back u g =
       let back : g.whole ≡ k.whole = grows-back g.times c g.whole k.base k.size.one_of (omega arith) fits-in-whole g.merges g.ends in
       same-space u s (g.place.0 ∙ k.place.0) (g.place.1 ∙ k.place.1)
-      (same-members u.free s.free listed r.listed
+      (same-members u.free s.free g.listed r.listed
       (λ q h. ⊎_elim
       (λ e. subst (λ (x : Chunk). IsFree s x) (sym (e ∙ back)) k.best.free)
       (λ o. ⊎_elim
@@ -207,6 +212,7 @@ takes s m t len w c best size base d p = record {
     (λ h. ⊎_elim (λ o. inl ((d.free q).0 o)) (λ l. inr (record { size = l.size; at_least = l.at_least; below = l.below; place = l.place })) ((p.free q).0 h)),
     (λ h. (p.free q).1 (⊎_elim (λ o. inl ((d.free q).1 o)) (λ l. inr (record { size = l.size; at_least = l.at_least; below = l.below; place = l.place })) h)),
   );
+  listed = p.listed;
 }
 
 module _ (s m t : Space) (r : IsRegion s) (len : ℕ) (w c : Chunk) (best : IsBestFor s len w) (size : IsSizeFor len c.size) (base : c.base ≡ w.base) (d : Drops s w m) (p : Splits m w c.size t) where
@@ -217,7 +223,7 @@ module _ (s m t : Space) (r : IsRegion s) (len : ℕ) (w c : Chunk) (best : IsBe
   bytes = omega (arith, d.bytes, p.bytes)
 
   pub take-region : IsRegion t
-  take-region = region-after-take s len c t r taken p.listed
+  take-region = region-after-take s len c t r taken
 
   pub take-out : LeavesOut s c t
   take-out = leaves-out s len c t r taken bytes

@@ -65,6 +65,7 @@ pub record IsBestFor (s : Space) (len : ℕ) (c : Chunk) : Type 0 where
   pub lowest : (d : Chunk) → IsFree s d → d.size ≡ c.size → c.base ≤ d.base
 
 -- Take: the best free chunk is split down to the least size that is at least len, with the lower half kept each time.
+-- The free chunks are listed in order again, so that one set of them is one region.
 pub record Takes (before : Space) (len : ℕ) (c : Chunk) (after : Space) : Type 0 where
   pub place : IsSamePlace before after
   pub whole : Chunk
@@ -72,13 +73,15 @@ pub record Takes (before : Space) (len : ℕ) (c : Chunk) (after : Space) : Type
   pub base : c.base ≡ whole.base
   pub size : IsSizeFor len c.size
   pub free : (q : Chunk) → IsFree after q ↔ ((IsFree before q × (q ≢ whole)) ⊎ IsLeftOver whole c q)
+  pub listed : IsListed after.free
 
 -- w is what c becomes where it is joined with its buddy n times: each time the buddy is free, and c less than a unit.
 abbrev pub Merges : ℕ → Space → Chunk → Chunk → Type 0
 Merges zero s c w = w ≡ c
 Merges (suc n) s c w = (c.size < 65536) × IsFree s (buddy c) × Merges n s (joined c) w
 
--- Give: the chunk is merged with its buddy as long as that is free and less than a unit.
+-- Give: the chunk is merged with its buddy as long as that is free and less than a unit. The free chunks are listed in
+-- order again.
 pub record Gives (before : Space) (c : Chunk) (after : Space) : Type 0 where
   pub place : IsSamePlace before after
   pub whole : Chunk
@@ -86,6 +89,7 @@ pub record Gives (before : Space) (c : Chunk) (after : Space) : Type 0 where
   pub merges : Merges times before c whole
   pub ends : whole.size < 65536 → IsFree before (buddy whole) → ⊥
   pub free : (q : Chunk) → IsFree after q ↔ ((q ≡ whole) ⊎ (IsFree before q × (IsWithin q whole → ⊥)))
+  pub listed : IsListed after.free
 
 -- Takes in order.
 abbrev pub TakesAll : Space → List ℕ → List Chunk → Space → Type 0
@@ -103,22 +107,26 @@ RefusesAt s (l ∷ ls) len = ((l ≡ len) × IsNoneFor s len) ⊎ ((c : Chunk) �
 abbrev pub IsWhole : Space → Type 0
 IsWhole s = (c : Chunk) → IsFree s c ↔ (IsChunkOf s c × (c.size ≡ 65536))
 
+-- c lies in a free chunk.
+abbrev pub LiesInFree : Space → Chunk → Type 0
+LiesInFree s c = (whole : Chunk) × IsFree s whole × IsWithin c whole
+
 -- What a taken chunk means for those that are out: it lay in a free chunk, it is out now, and chunks that were out
 -- before are out still and share no address with it.
 pub record LeavesOut (before : Space) (c : Chunk) (after : Space) : Type 0 where
-  pub whole : Chunk
-  pub free : IsFree before whole
-  pub within : IsWithin c whole
+  pub lay : LiesInFree before c
   pub out : IsOut after c
   pub others : (d : Chunk) → IsOut before d → IsOut after d × Apart c d
   pub bytes : bytes_free after + c.size ≡ bytes_free before
 
--- The same of a list of chunks.
+-- No two of these chunks share an address.
 abbrev pub AreApart : List Chunk → Type 0
 AreApart [] = Unit {0}
 AreApart (c ∷ cs) = ((d : Chunk) → IsAmong cs d → Apart c d) × AreApart cs
 
+-- The same of a list of chunks, which share no address with each other either.
 pub record LeavesAllOut (before : Space) (cs : List Chunk) (after : Space) : Type 0 where
+  pub lay : (c : Chunk) → IsAmong cs c → LiesInFree before c
   pub out : (c : Chunk) → IsAmong cs c → IsOut after c
   pub apart : AreApart cs
   pub others : (d : Chunk) → IsOut before d → IsOut after d × ((c : Chunk) → IsAmong cs c → Apart c d)

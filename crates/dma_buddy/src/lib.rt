@@ -6,6 +6,7 @@ mod bit_set;
 mod buddies;
 mod chunk_list;
 mod free_chunks;
+mod laws;
 #[cfg(test)]
 mod tests;
 mod words;
@@ -13,3 +14,4 @@ mod words;
 pub use allocator::Region;
 pub use buddies::Chunk;
 pub use chunk_list::Chunks;
+pub use laws::one_region;

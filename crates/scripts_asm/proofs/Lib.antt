@@ -3,3 +3,5 @@ pub mod Givings
 pub mod Fields
 pub mod Answered
 pub mod OneReading
+pub mod SomeAnswer
+pub mod SomeReading

@@ -4,3 +4,4 @@ pub mod Seen
 pub mod SeenNames
 pub mod Judging
 pub mod Image
+pub mod Laws

@@ -11,5 +11,5 @@ mod names;
 mod whole;
 
 pub use assembling::{AsmFault, Image, Label, Labels};
-pub use laws::one_reading;
+pub use laws::{one_reading, some_answer};
 pub use whole::assemble;

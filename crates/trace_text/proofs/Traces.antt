@@ -12,7 +12,7 @@ use Rattle.std.proofs.lemmas.Fmt.{decimal_digit}
 use Rattle.trace_text.specs.declared.types.TraceLine.{TraceLine}
 use Rattle.trace_text.specs.Grammar.{step_text, IsLine, line_text, first_line, trace_of, AreLines}
 use Rattle.trace_text.specs.Reading.{split_in, line_in, next_in, after_first_line}
-use Rattle.trace_text.proofs.Lines.{map_some, then_some, guard_some, some, some_is, decimal_lacks, split_takes, split_again, lacks, line_takes, line_again, text_lacks}
+use Rattle.trace_text.proofs.Lines.{map_some, then_some, guard_some, decimal_lacks, split_takes, split_again, lacks, line_takes, line_again, text_lacks}
 
 pub next_takes : (bs : List ℕ) (l : TraceLine) (rest : List ℕ) → next_in bs ≡ Some (l, rest) → (bs ≡ line_text l ++ rest) × IsLine l
 next_takes bs l rest e =
@@ -60,40 +60,8 @@ texts ls = flat_map line_text ls
 pub line_text_some : (l : TraceLine) (rest : List ℕ) → line_text l ++ rest ≢ []
 line_text_some l rest e = absurd (omega (arith, ap length e, length-append (line_text l) rest, length-append (step_text l.step (unwrap_or l.caller 0)) (10 ∷ [])))
 
--- two texts that are one begin with one line
-same_front : (xs ys : List ℕ) (l m : TraceLine) (after behind : List ℕ) → xs ≡ ys → next_in xs ≡ Some (l, after) → next_in ys ≡ Some (m, behind) → (l ≡ m) × (after ≡ behind)
-same_front xs ys l m after behind e a b =
-    let p : (l, after) ≡ (m, behind) = some_is (l, after) (m, behind) (sym a ∙ ap next_in e ∙ b) in
-    (ap (λ (x : TraceLine × List ℕ). x.0) p, ap (λ (x : TraceLine × List ℕ). x.1) p)
-
-front_of : (l : TraceLine) (ls : List TraceLine) (rest : List ℕ) → IsLine l → next_in (texts (l ∷ ls) ++ rest) ≡ Some (l, texts ls ++ rest)
-front_of l ls rest h = ap next_in (ap (λ (x : List ℕ). x ++ rest) (flat_map-cons line_text l ls) ∙ append_assoc (line_text l) (texts ls) rest) ∙ next_again l (texts ls ++ rest) h
-
-front_of_all : (l : TraceLine) (ls : List TraceLine) → IsLine l → next_in (texts (l ∷ ls)) ≡ Some (l, texts ls)
-front_of_all l ls h = ap next_in (flat_map-cons line_text l ls) ∙ next_again l (texts ls) h
-
 none_some : {A : Type 0} (o : Option A) (x : A) → o ≡ None → o ≡ Some x → ⊥
 none_some o x a b = cc
-
--- one list of lines is the front of another, up to what is no line
-pub goes_on_none : (ls ms : List TraceLine) (rest : List ℕ) → AreLines ls → AreLines ms → texts ls ++ rest ≡ texts ms → next_in rest ≡ None → rest ≢ [] → ⊥
-goes_on_none [] [] rest hl hm e none some = some e
-goes_on_none [] (m ∷ ms) rest hl hm e none some = none_some (next_in rest) (m, texts ms) none (ap next_in e ∙ front_of_all m ms hm.0)
-goes_on_none (l ∷ ls) [] rest hl hm e none some = line_text_some l (texts ls ++ rest) (sym (append_assoc (line_text l) (texts ls) rest) ∙ ap (λ (x : List ℕ). x ++ rest) (sym (flat_map-cons line_text l ls)) ∙ e)
-goes_on_none (l ∷ ls) (m ∷ ms) rest hl hm e none some =
-    goes_on_none ls ms rest hl.1 hm.1 (same_front _ _ l m (texts ls ++ rest) (texts ms) e (front_of l ls rest hl.0) (front_of_all m ms hm.0)).1 none some
-
-pub same_lines : (ls ms : List TraceLine) → AreLines ls → AreLines ms → texts ls ≡ texts ms → ls ≡ ms
-same_lines [] [] hl hm e = refl
-same_lines [] (m ∷ ms) hl hm e = absurd (line_text_some m (texts ms) (sym (flat_map-cons line_text m ms) ∙ sym e))
-same_lines (l ∷ ls) [] hl hm e = absurd (line_text_some l (texts ls) (sym (flat_map-cons line_text l ls) ∙ e))
-same_lines (l ∷ ls) (m ∷ ms) hl hm e =
-    let f = same_front _ _ l m (texts ls) (texts ms) e (front_of_all l ls hl.0) (front_of_all m ms hm.0) in
-    ap (λ (x : TraceLine). x ∷ ls) f.0 ∙ ap (λ (x : List TraceLine). m ∷ x) (same_lines ls ms hl.1 hm.1 f.1)
-
--- what the whole text says of what follows the first line
-pub rest_of_trace : (version : ℕ) (bs rest : List ℕ) (ls : List TraceLine) → version < 10 → after_first_line version bs ≡ Some rest → bs ≡ trace_of version ls → rest ≡ texts ls
-rest_of_trace version bs rest ls lt a b = some_is rest (texts ls) (sym a ∙ ap (after_first_line version) b ∙ first_line_again version (texts ls) lt)
 
 pub head_digit : (version : ℕ) → version < 10 → head version ≡ codes "sym-trace " ++ (48 + version) ∷ []
 head_digit version lt = ap (λ (x : List ℕ). codes "sym-trace " ++ x) (decimal_digit version lt)
@@ -101,18 +69,6 @@ head_digit version lt = ap (λ (x : List ℕ). codes "sym-trace " ++ x) (decimal
 -- a text without its first line is no trace
 pub no_first_line : (version : ℕ) (bs rest : List ℕ) → version < 10 → after_first_line version bs ≡ None → bs ≡ first_line version ++ rest → ⊥
 no_first_line version bs rest lt a b = none_some (after_first_line version bs) rest a (ap (after_first_line version) b ∙ first_line_again version rest lt)
-
--- some lines are read, and no line follows
-pub not_spelled : (version : ℕ) (bs rest : List ℕ) (ls ms : List TraceLine) → version < 10 → AreLines ls → AreLines ms → bs ≡ trace_of version ls ++ rest → next_in rest ≡ None → rest ≢ [] → bs ≡ trace_of version ms → ⊥
-not_spelled version bs rest ls ms lt hl hm spelled none some e =
-    let whole : bs ≡ first_line version ++ (texts ls ++ rest) = spelled ∙ append_assoc (first_line version) (texts ls) rest in
-    let after : after_first_line version bs ≡ Some (texts ls ++ rest) = ap (after_first_line version) whole ∙ first_line_again version (texts ls ++ rest) lt in
-    goes_on_none ls ms rest hl hm (rest_of_trace version bs (texts ls ++ rest) ms lt after e) none some
-
-pub read_so : (version : ℕ) (bs : List ℕ) (ls ms : List TraceLine) → version < 10 → AreLines ls → AreLines ms → bs ≡ trace_of version ls → bs ≡ trace_of version ms → ls ≡ ms
-read_so version bs ls ms lt hl hm a b =
-    let after : after_first_line version bs ≡ Some (texts ls) = ap (after_first_line version) a ∙ first_line_again version (texts ls) lt in
-    same_lines ls ms hl hm (rest_of_trace version bs (texts ls) ms lt after b)
 
 pub AreLines-push : (ls : List TraceLine) (l : TraceLine) → AreLines ls → IsLine l → AreLines (ls ++ l ∷ [])
 AreLines-push [] l a b = (b, tt)

@@ -89,11 +89,24 @@ first_line version = codes "sym-trace " ++ decimal version ++ 10 ∷ []
 abbrev pub trace_of : ℕ → List TraceLine → List ℕ
 trace_of version ls = first_line version ++ flat_map line_text ls
 
+-- these bytes are the trace of these lines, each a line of the grammar, in this version
+pub record IsTrace (version : ℕ) (bytes : List ℕ) (ls : List TraceLine) : Type 0 where
+  pub lines : AreLines ls
+  pub text : bytes ≡ trace_of version ls
+
+-- these bytes begin with no line of the grammar
+abbrev pub BeginsWithNoLine : List ℕ → Type 0
+BeginsWithNoLine rest = (l : TraceLine) (more : List ℕ) → IsLine l → rest ≢ line_text l ++ more
+
 -- The first line outside the grammar is the n-th, from 1. It is line 1 where the text doesn't begin with the first line.
 -- Otherwise the text begins with the lines before it and goes on, and what follows begins with no line of the grammar.
-abbrev pub IsOutside : ℕ → List ℕ → TraceFault → Type 0
-IsOutside version bytes OutOfMemory = Unit {0}
-IsOutside version bytes (Line n) =
+abbrev pub IsFirstFault : ℕ → List ℕ → ℕ → Type 0
+IsFirstFault version bytes n =
     ((n ≡ 1) × ((rest : List ℕ) → bytes ≢ first_line version ++ rest))
     ⊎ ((ls : List TraceLine) × (rest : List ℕ) × AreLines ls × (bytes ≡ trace_of version ls ++ rest) × (rest ≢ []) × (n ≡ length ls + 2)
-    × ((l : TraceLine) (more : List ℕ) → IsLine l → rest ≢ line_text l ++ more))
+    × BeginsWithNoLine rest)
+
+-- a line that is refused is the first outside the grammar; want of memory says nothing of the text
+abbrev pub IsFaultOf : ℕ → List ℕ → TraceFault → Type 0
+IsFaultOf version bytes (Line n) = IsFirstFault version bytes n
+IsFaultOf version bytes OutOfMemory = Unit {0}

@@ -4,6 +4,7 @@
 //! grammar. The format is this project's own; docs/FORMATS.md has it with an example.
 #![tactic(auto)]
 
+mod laws;
 mod line;
 mod numbers;
 mod reading;
@@ -12,6 +13,7 @@ mod tests;
 mod types;
 mod writing;
 
+pub use laws::one_reading;
 pub use reading::read;
 pub use types::{TraceFault, TraceLine, TraceLines};
 pub use writing::write;

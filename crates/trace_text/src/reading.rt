@@ -5,7 +5,7 @@ ghost use Rattle.std.specs.Fmt.{decimal};
 ghost use Rattle.std.specs.Str.{bytes_eq};
 ghost use Rattle.trace_text.specs.declared.types.TraceFault.TheVariants.{OutOfMemory};
 ghost use Rattle.trace_text.specs.declared.types.TraceLine.{TraceLine as LineRecord};
-ghost use Rattle.trace_text.specs.Grammar.{trace_of, AreLines, IsOutside};
+ghost use Rattle.trace_text.specs.Grammar.{IsTrace, IsFaultOf};
 ghost use Rattle.trace_text.specs.Reading.{next_in, after_first_line};
 
 use crate::line::{line, split};
@@ -53,12 +53,12 @@ pub fn read(alloc: Global, bytes: &[u8], version: u8) -> Result<TraceLines, Trac
     requires known { (1 ≤ version) × (version ≤ 2) }
     requires short { length bytes.now < 2 ^ 32 - 1 }
     // The lines that are read spell the text.
-    ensures found { IfOk result (λ ls. AreLines ls × (bytes.now ≡ trace_of version ls)) }
+    ensures found { IfOk result (λ ls. IsTrace version bytes.now ls) }
     // Lines that spell the text are read, unless memory runs out.
-    ensures only { (ls : List LineRecord) → AreLines ls → bytes.now ≡ trace_of version ls
+    ensures only { (ls : List LineRecord) → IsTrace version bytes.now ls
         → MatchResult result (λ read. read ≡ ls) (λ e. e ≡ OutOfMemory) }
     // The line of a fault is the first outside the grammar.
-    ensures fault { IfErr result (IsOutside version bytes.now) }
+    ensures fault { IfErr result (IsFaultOf version bytes.now) }
 {
     let mut rest = match skip_first_line(bytes, version) {
         None => return Err(TraceFault::Line(1)),

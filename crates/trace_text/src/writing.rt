@@ -2,7 +2,7 @@
 
 ghost use Rattle.std.specs.Prelude.{◌≡◌, ◌≤◌, ◌++◌, ◌∷◌, map, OnOk, IfOk};
 ghost use Rattle.std.specs.Fmt.{decimal};
-ghost use Rattle.trace_text.specs.Grammar.{step_text, hex_8, first_line, line_of, trace_of, StepFits, IsLine, AreLines};
+ghost use Rattle.trace_text.specs.Grammar.{step_text, hex_8, first_line, line_of, StepFits, IsLine, IsTrace};
 
 use crate::numbers::hex;
 use rig_types::{Entry, Line, Step};
@@ -82,9 +82,8 @@ fn put_first_line(out: &mut Vec<u8>, version: u8) -> Result<(), AllocError>
 /// The trace of a list of entries, for a rig of this version.
 pub fn write(alloc: Global, entries: &[Entry], version: u8) -> Result<Bytes, AllocError>
     requires { (1 ≤ version) × (version ≤ 2) }
-    ensures text { IfOk result (λ text. text ≡ trace_of version (map line_of entries.now)) }
     // So `read` gives these lines.
-    ensures lines { OnOk result (AreLines (map line_of entries.now)) }
+    ensures { IfOk result (λ text. IsTrace version text (map line_of entries.now)) }
 {
     let mut out = Vec::new(alloc);
     put_first_line(&mut out, version)?;

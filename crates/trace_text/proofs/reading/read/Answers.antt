@@ -1,11 +1,12 @@
 use Rattle.std.proofs.Common.{◌≡◌, ◌≤◌, ◌++◌, ◌∷◌, [], length, sym, ◌∙◌, ap, arith, inl, inr, refl, length-append, append-nil}
 use Rattle.trace_text.specs.Grammar.{trace_of, first_line}
-use Rattle.trace_text.proofs.Traces.{no_first_line, not_spelled, read_so, first_line_takes, next_takes, AreLines-push, trace-push, length-rest, texts, not_empty, is_nil, trace_start, begins_with_none}
+use Rattle.trace_text.proofs.Traces.{no_first_line, first_line_takes, next_takes, AreLines-push, trace-push, length-rest, texts, not_empty, is_nil, trace_start, begins_with_none}
+use Rattle.trace_text.proofs.OneReading.{no_trace, one_trace}
 use Rattle.std.proofs.lemmas.Grind.{common_steps}
 use Rattle.trace_text.proofs.reading.read.Goals as goal
 
 pub returns-in-None-clause-only : goal.returns-in-None-clause-only
-returns-in-None-clause-only c = λ ls are e. absurd (no_first_line c.args.version c.args.bytes.now (texts ls) (omega arith) (sym c.in-None.ensures) e)
+returns-in-None-clause-only c = λ ls t. absurd (no_first_line c.args.version c.args.bytes.now (texts ls) (omega arith) (sym c.in-None.ensures) t.text)
 
 pub returns-in-None-clause-fault : goal.returns-in-None-clause-fault
 returns-in-None-clause-fault c = inl (refl, λ rest e. no_first_line c.args.version c.args.bytes.now rest (omega arith) (sym c.in-None.ensures) e)
@@ -17,9 +18,14 @@ loop-rest-init c =
     rw c.new-lines.ensures.items (record { spelled = whole ∙ sym (trace_start c.args.version c.in-Some.rest.now); lines = tt; few = omega (arith, fewer) })
 
 pub returns-in-None-next-clause-only : goal.returns-in-None-next-clause-only
-returns-in-None-next-clause-only c = λ ls are e.
-    absurd (not_spelled c.args.version c.args.bytes.now c.loop-rest.rest.now c.loop-rest.lines.items ls (omega arith) c.loop-rest.invariant.lines are c.loop-rest.invariant.spelled (sym c.in-None-next.ensures)
-    (not_empty c.loop-rest.rest.now c.is_empty.result c.is_empty.ensures c.loop-rest-test.true) e)
+returns-in-None-next-clause-only c = λ ls t.
+    absurd (no_trace c.args.version c.args.bytes.now c.loop-rest.lines.items ls c.loop-rest.rest.now
+    (record {
+      lines = c.loop-rest.invariant.lines;
+      text = c.loop-rest.invariant.spelled;
+      none = λ l more are e. begins_with_none c.loop-rest.rest.now l more (sym c.in-None-next.ensures) are e;
+    })
+    (not_empty c.loop-rest.rest.now c.is_empty.result c.is_empty.ensures c.loop-rest-test.true) t)
 
 pub returns-in-None-next-clause-fault : goal.returns-in-None-next-clause-fault
 returns-in-None-next-clause-fault c =
@@ -51,7 +57,7 @@ loop-rest-preserved c =
     })
 
 pub returns-clause-only : goal.returns-clause-only
-returns-clause-only c = λ ls are e.
+returns-clause-only c = λ ls t.
     let nil : c.loop-rest.rest.now ≡ [] = is_nil c.loop-rest.rest.now c.is_empty.result c.is_empty.ensures c.loop-rest-test.false in
     let whole : c.args.bytes.now ≡ trace_of c.args.version c.loop-rest.lines.items = c.loop-rest.invariant.spelled ∙ ap (λ r. trace_of c.args.version c.loop-rest.lines.items ++ r) nil ∙ append-nil (trace_of c.args.version c.loop-rest.lines.items) in
-    c.of.ensures ∙ read_so c.args.version c.args.bytes.now c.loop-rest.lines.items ls (omega arith) c.loop-rest.invariant.lines are whole e
+    c.of.ensures ∙ one_trace c.args.version c.args.bytes.now c.loop-rest.lines.items ls (record { lines = c.loop-rest.invariant.lines; text = whole }) t

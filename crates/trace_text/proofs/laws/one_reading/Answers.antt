@@ -1,0 +1,5 @@
+use Rattle.trace_text.proofs.OneReading as law
+use Rattle.trace_text.proofs.laws.one_reading.Goals as goal
+
+pub returns : goal.returns
+returns c = law.one_reading
