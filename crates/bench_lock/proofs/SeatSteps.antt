@@ -594,11 +594,12 @@ module _ {M O T : Type 0} (opening : M → O) (list : M → List (ℕ × T)) (o 
       let h = here r.home refl r.homed in
       ((fixed.0 ∙ ap (λ (p : O). Some p) (sym h.0)), subst (λ (es : List (ℕ × T)). Begins v.seen es) (sym h.1) me.seen, subst (λ (es : List (ℕ × T)). IsOwn v es) (sym h.1) (own_to v base r.log fixed.1 r.begun (me.caller rests.0).2))
 
-module _ {M O T : Type 0} (opening : M → O) (list : M → List (ℕ × T)) where
-  begins_both : (xs ys : List (ℕ × T)) (b : Bool) → ltb (length xs) (length ys) ≡ b → (length (cond b xs ys) ≤ length (cond b ys xs) → Begins (cond b xs ys) (cond b ys xs)) → Begins xs (cond b ys xs) × Begins ys (cond b ys xs)
-  begins_both xs ys true is f = let lt = ltb-true (length xs) (length ys) is in (f (omega arith), ([], sym (append-nil ys)))
-  begins_both xs ys false is f = let le = ltb-false (length xs) (length ys) is in (([], sym (append-nil xs)), f le)
+begins_both : {E : Type 0} → (xs ys : List E) (b : Bool) → ltb (length xs) (length ys) ≡ b → (length (cond b xs ys) ≤ length (cond b ys xs) → Begins (cond b xs ys) (cond b ys xs)) → Begins xs (cond b ys xs) × Begins ys (cond b ys xs)
+begins_both {E} xs ys true is f = let lt = ltb-true (length xs) (length ys) is in (f (omega arith), ([], sym (append-nil ys)))
+begins_both {E} xs ys false is f = let le = ltb-false (length xs) (length ys) is in (([], sym (append-nil xs)), f le)
 
+-- what a join tells of the seat that goes on
+module _ {O T : Type 0} where
   pub joins_both : (v w a b : View O T) → a ≡ merged_view v w → b ≡ compared_view a → (length a.told ≤ length a.seen → Begins a.told a.seen) → Begins v.seen b.seen × Begins w.seen b.seen
   joins_both v w a b is then learnt =
       let learnt' : length (shorter v.seen w.seen) ≤ length (longer v.seen w.seen) → Begins (shorter v.seen w.seen) (longer v.seen w.seen) =
@@ -609,6 +610,7 @@ module _ {M O T : Type 0} (opening : M → O) (list : M → List (ℕ × T)) whe
   pub joins_own : (v w a b : View O T) → a ≡ merged_view v w → b ≡ compared_view a → v.live ≡ true → (a.live ≡ true → IsOwn a a.seen) → IsOwn b b.seen
   joins_own v w a b is then live learnt = subst (λ (u : View O T). IsOwn u u.seen) (sym then) (learnt (ap (λ (u : View O T). u.live) is ∙ live))
 
+module _ {M O T : Type 0} (opening : M → O) (list : M → List (ℕ × T)) where
   pub opens : (m : M) (callers c : ℕ) → 1 ≤ callers → callers < 2 ^ 32 → c ≡ length (list m) → Kept opening list (opening m) (length (list m)) callers (Table.opening (0 ∷ 0 ∷ c ∷ []) (m ∷ []) (first_view (opening m) (list m) callers))
   opens m callers c some_caller few count =
       let v : View O T = first_view (opening m) (list m) callers in
@@ -702,15 +704,16 @@ module _ {M O T : Type 0} (opening : M → O) (list : M → List (ℕ × T)) whe
         else_same = λ i. record w { has_ticket = sym rests.1 i; turn = sym rests.2 i; ticket = sym rests.3 i };
       })
 
-  pub adds_up : (v : View O T) (d t s : Sit) (ticket : ℕ) (y y' z : M) (by : ℕ) (x : T) (b : Bool) (before after : ℕ) → v.caller ≡ by → d ≡ (with_ticket ticket v, []) → t ≡ (with_turn (list y) d.0, (0, y) ∷ d.1) → t.1 ≡ (0, y') ∷ [] → s.0 ≡ t.0
+module _ {M O T : Type 0} (list : M → List (ℕ × T)) where
+  pub adds_up : (v : View O T) (d t s : Me M (View O T)) (ticket : ℕ) (y y' z : M) (by : ℕ) (x : T) (b : Bool) (before after : ℕ) → v.caller ≡ by → d ≡ (with_ticket ticket v, []) → t ≡ (with_turn (list y) d.0, (0, y) ∷ d.1) → t.1 ≡ (0, y') ∷ [] → s.0 ≡ t.0
       → list z ≡ added (list y') b (entry by x) → before ≡ length (list y') → after ≡ length (list z)
       → (es : List (ℕ × T)) × (list z ≡ s.0.seen ++ es) × (after - before ≡ length es) × (entries_of s.0.caller es ≡ es) × ((n : ℕ) → n ≢ s.0.caller → entries_of n es ≡ [])
   adds_up v d t s ticket y y' z by x b before after named drawn took held kept grew short long =
       let es : List (ℕ × T) = added [] b (entry by x) in
-      let t_is : t ≡ (with_turn (list y) (with_ticket ticket v), (0, y) ∷ []) = took ∙ ap (λ (m : Sit). let u : Sit = (with_turn (list y) m.0, (0, y) ∷ m.1) in u) drawn in
-      let same : y' ≡ y = ap (λ (l : List (ℕ × M)). (get_or l 0 (0, y)).1) (sym held ∙ ap (λ (m : Sit). m.1) t_is) in
-      let seen : s.0.seen ≡ list y' = ap (λ (u : View O T). u.seen) (kept ∙ ap (λ (m : Sit). m.0) t_is) ∙ ap list (sym same) in
-      let caller : s.0.caller ≡ by = ap (λ (u : View O T). u.caller) (kept ∙ ap (λ (m : Sit). m.0) t_is) ∙ named in
+      let t_is : t ≡ (with_turn (list y) (with_ticket ticket v), (0, y) ∷ []) = took ∙ ap (λ (m : Me M (View O T)). let u : Me M (View O T) = (with_turn (list y) m.0, (0, y) ∷ m.1) in u) drawn in
+      let same : y' ≡ y = ap (λ (l : List (ℕ × M)). (get_or l 0 (0, y)).1) (sym held ∙ ap (λ (m : Me M (View O T)). m.1) t_is) in
+      let seen : s.0.seen ≡ list y' = ap (λ (u : View O T). u.seen) (kept ∙ ap (λ (m : Me M (View O T)). m.0) t_is) ∙ ap list (sym same) in
+      let caller : s.0.caller ≡ by = ap (λ (u : View O T). u.caller) (kept ∙ ap (λ (m : Me M (View O T)). m.0) t_is) ∙ named in
       let grown : list z ≡ list y' ++ es = grew ∙ added_tail (list y') b (entry by x) in (
         es,
         grown ∙ ap (λ (l : List (ℕ × T)). l ++ es) (sym seen),

@@ -23,8 +23,8 @@ returns-clause-seat g c = let l = c.load.ensures in let j = c.join_seat.ensures 
 
 pub returns-clause-both : goal.returns-clause-both
 returns-clause-both g c = let l = c.load.ensures.2 in let j = c.join_seat.ensures in
-    joins_both g.M.Machine.opening g.M.Machine.list c.args.seat.now.me.0 c.args.other.me.0 c.join_seat.new.seat.me.0 c.load.new.seat.me.0 (ap (λ m. m.0) j.2) (ap (λ m. m.0) l.0) l.1
+    joins_both c.args.seat.now.me.0 c.args.other.me.0 c.join_seat.new.seat.me.0 c.load.new.seat.me.0 (ap (λ m. m.0) j.2) (ap (λ m. m.0) l.0) l.1
 
 pub returns-clause-own : goal.returns-clause-own
 returns-clause-own g c = let l = c.load.ensures.2 in let j = c.join_seat.ensures in
-    joins_own g.M.Machine.opening g.M.Machine.list c.args.seat.now.me.0 c.args.other.me.0 c.join_seat.new.seat.me.0 c.load.new.seat.me.0 (ap (λ m. m.0) j.2) (ap (λ m. m.0) l.0) c.requires.rests.0.0 l.2
+    joins_own c.args.seat.now.me.0 c.args.other.me.0 c.join_seat.new.seat.me.0 c.load.new.seat.me.0 (ap (λ m. m.0) j.2) (ap (λ m. m.0) l.0) c.requires.rests.0.0 l.2
