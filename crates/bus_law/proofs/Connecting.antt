@@ -6,7 +6,7 @@ use Rattle.chip_step.specs.declared.scsi_bus.Settled.{Settled}
 use Rattle.chip_step.specs.declared.scsi_bus.Settled.TheVariants.{Selected, Reselected, TimedOut}
 use Rattle.target_law.specs.declared.nexus.Nexus.{Nexus}
 use Rattle.target_law.specs.Calls.{link_phase}
-use Rattle.scsi_target.specs.Devices.{DeviceState}
+use Rattle.target_law.specs.Devices.{DeviceState}
 use Rattle.bus_law.specs.Bus.{BusState, link_on, free_if, with_device}
 use Rattle.bus_law.specs.Choices.{after_turn}
 use Rattle.bus_law.specs.Bytes.{after_byte_in, after_byte_out}

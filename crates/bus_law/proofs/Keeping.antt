@@ -10,7 +10,7 @@ use Rattle.chip_step.specs.declared.scsi_bus.Settled.TheVariants.{Selected, Rese
 use Rattle.target_law.specs.declared.nexus.Nexus.{Nexus}
 use Rattle.target_law.specs.Target.{Link, Free, Greeted, Commanded, Working, Straying}
 use Rattle.target_law.specs.Calls.{is_free, link_phase, link_byte}
-use Rattle.scsi_target.specs.Devices.{DeviceState}
+use Rattle.target_law.specs.Devices.{DeviceState}
 use Rattle.bus_law.specs.Bus.{BusState, device_at, device_of, link_on, signals_of, free_if, with_device}
 use Rattle.bus_law.specs.Choices.{chooses, left_by, turned_by, turned, after_turn, phase_after}
 use Rattle.bus_law.specs.Bytes.{if_asked, is_same_phase, byte_of, is_message_in, after_byte_in}

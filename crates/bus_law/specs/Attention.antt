@@ -3,7 +3,7 @@ use Rattle.std.specs.Prelude.{ℕ, Bool, true, false, Option, Some, None}
 use Rattle.scsi_words.specs.declared.phases.kinds.Phase.{Phase as BusPhase}
 use Rattle.scsi_words.specs.declared.phases.kinds.Phase.TheVariants as phase
 use Rattle.target_law.specs.Calls.{link_phase, target_messaged, target_acked}
-use Rattle.scsi_target.specs.Devices.{DeviceState, where_room}
+use Rattle.target_law.specs.Devices.{DeviceState, where_room}
 use Rattle.bus_law.specs.Bus.{BusState, device_at, link_on, becomes}
 
 -- ATN is released: while MSG_OUT is shown, the message is whole, and acts

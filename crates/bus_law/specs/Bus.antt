@@ -7,7 +7,7 @@ use Rattle.rig_types.specs.declared.rig.Unit.{Unit as RigUnit}
 use Rattle.chip_step.specs.Laws.{Signals}
 use Rattle.target_law.specs.Target.{Link, Free, target_reset}
 use Rattle.target_law.specs.Calls.{is_free, link_phase}
-use Rattle.scsi_target.specs.Devices.{DeviceState, device_opened, where_room}
+use Rattle.target_law.specs.Devices.{DeviceState, device_opened, where_room}
 
 -- the devices by SCSI ID, 0 to 6, where 7 is the host's; which one is connected; ATN and ACK; and the phase that was asked for last
 pub record BusState : Type 0 where

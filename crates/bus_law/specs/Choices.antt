@@ -8,7 +8,7 @@ use Rattle.target_law.specs.Choice.{offered, index}
 use Rattle.target_law.specs.Target.{LogicalUnit, Link, Free, Working, Straying, Target, unit_at, session, linked, parted}
 use Rattle.target_law.specs.Calls.{link_phase, target_acted, asked_by}
 use Rattle.target_law.specs.Lawful.{refused_so_far}
-use Rattle.scsi_target.specs.Devices.{DeviceState, where_room}
+use Rattle.target_law.specs.Devices.{DeviceState, where_room}
 use Rattle.bus_law.specs.Bus.{BusState, device_at, becomes}
 
 -- the lawful moves of a connected task with this word, in their order, and the one that the word names

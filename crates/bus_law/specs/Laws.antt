@@ -7,7 +7,7 @@ use Rattle.chip_step.specs.declared.scsi_bus.Settled.TheVariants.{Selected, Rese
 use Rattle.target_law.specs.declared.nexus.Nexus.{Nexus}
 use Rattle.target_law.specs.Target.{target_reset}
 use Rattle.target_law.specs.Calls.{is_free}
-use Rattle.scsi_target.specs.Devices.{DeviceState, lie_within}
+use Rattle.target_law.specs.Devices.{DeviceState, lie_within}
 use Rattle.bus_law.specs.Bus.{BusState, device_at, signals_of, bus_opened, bus_reset}
 use Rattle.bus_law.specs.Moves.{moves}
 
