@@ -3,7 +3,11 @@
 
 ghost use Rattle.std.specs.Prelude.{◌≡◌, ℕ, ◌+◌, ◌*◌, ◌%◌, ◌<◌, ◌≤◌, length, slice_index, slice_set, IfOk};
 ghost use Rattle.bench_words.specs.Memory.{word_at, put_word, put_bytes, bytes_at, IsZero};
+ghost use Rattle.bench_words.specs.Bytes.{IsBytes};
 
+mod laws;
+
+pub use laws::bytes_stay_bytes;
 use std::alloc::{AllocError, Global};
 use std::marker::Model;
 
@@ -34,11 +38,12 @@ impl Words {
         Ok(Words { cells })
     }
 
-    /// The number of bytes: a multiple of 4, at most 4,194,304.
+    /// The number of bytes: a multiple of 4, at most 4,194,304. Every byte of memory is below 256.
     pub fn len(&self) -> u32
         ensures size { result ≡ length self.now }
         ensures whole { result % 4 ≡ 0 }
         ensures most { result ≤ 4194304 }
+        ensures bytes { IsBytes self.now }
     {
         4 * self.cells.len() as u32
     }

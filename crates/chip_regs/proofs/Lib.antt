@@ -1,1 +1,3 @@
 pub mod Flags
+pub mod Bytes
+pub mod Words

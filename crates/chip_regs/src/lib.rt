@@ -5,7 +5,9 @@
 #![tactic(auto)]
 
 mod bits;
+mod laws;
 mod registers;
 
 pub use bits::{Ctest2, Dstat, Istat, Sist0, Sist1};
+pub use laws::{registers_keep_bytes, wide_by_bytes};
 pub use registers::{Cause, Regs};

@@ -1,7 +1,8 @@
 -- A call of the bus, with its arguments and its answer. A word is that by which the target chooses.
-use Rattle.std.specs.Prelude.{ℕ, Bool, Option}
+use Rattle.std.specs.Prelude.{ℕ, Bool, false, Option, None}
 use Rattle.scsi_words.specs.declared.phases.kinds.Phase.{Phase as BusPhase}
 use Rattle.chip_step.specs.declared.scsi_bus.Settled.{Settled}
+use Rattle.chip_step.specs.declared.scsi_bus.Settled.TheVariants.{TimedOut}
 
 pub data Event : Type 0 where
   -- the phase after the target's choice by a word; None on a free bus
@@ -20,3 +21,15 @@ pub data Event : Type 0 where
   ClearAck : Event
   -- whether the bus is free after the target's choice by a word
   Leave : ℕ → Bool → Event
+
+-- a call without its answer
+abbrev pub call_of : Event → Event
+call_of (Phase word shown) = Phase word None
+call_of (Shown shown) = Shown None
+call_of (ByteIn b) = ByteIn None
+call_of (ByteOut b taken) = ByteOut b false
+call_of (Select target word settled) = Select target word TimedOut
+call_of (Reselect word target) = Reselect word None
+call_of (SetAtn on) = SetAtn on
+call_of ClearAck = ClearAck
+call_of (Leave word gone) = Leave word false

@@ -18,8 +18,8 @@ abbrev pub IsLawful : {B : Type 0} → (B → Signals) → B → Event → B →
 IsLawful signals old (Phase word None) new = (signals new).free ≡ true
 IsLawful signals old (Phase word (Some phase)) new = (signals new).free ≡ false
 IsLawful signals old (Shown phase) new = phase ≡ (signals old).shown
--- a byte of a message asserts ACK; where no byte is left, the state stays
-IsLawful signals old (ByteIn (Some b)) new = (signals old).shown ≡ Some MsgIn → (signals new).ack ≡ true
+-- a byte is below 256, and one of a message asserts ACK; where no byte is left, the state stays
+IsLawful signals old (ByteIn (Some b)) new = (b < 256) × ((signals old).shown ≡ Some MsgIn → (signals new).ack ≡ true)
 IsLawful signals old (ByteIn None) new = new ≡ old
 IsLawful signals old (ByteOut b true) new = Unit {0}
 IsLawful signals old (ByteOut b false) new = new ≡ old

@@ -1,26 +1,14 @@
 -- A bus on which a read goes through, by the calls that it is asked, and what the script then leaves.
-use Rattle.std.specs.Prelude.{◌≡◌, ℕ, true, false, List, [], ◌∷◌, Some, None}
+use Rattle.std.specs.Prelude.{◌≡◌, ℕ, true, false, List, [], ◌∷◌, Some}
 use Rattle.bench_words.specs.Memory.{put_bytes, IsZero}
 use Rattle.scsi_words.specs.declared.phases.kinds.Phase.{Phase as BusPhase}
 use Rattle.scsi_words.specs.declared.phases.kinds.Phase.TheVariants.{DataIn, Command, Status, MsgOut, MsgIn}
 use Rattle.chip_regs.specs.Registers.{cause_of}
 use Rattle.chip_regs.specs.declared.registers.Cause.TheVariants.{Sir}
-use Rattle.chip_step.specs.Event.{Event, Phase, Shown, ByteIn, ByteOut, Select, Reselect, SetAtn, ClearAck, Leave}
+use Rattle.chip_step.specs.Event.{Event, call_of, Phase, ByteIn, ByteOut, Select, SetAtn, ClearAck, Leave}
 use Rattle.chip_step.specs.Chip.{Chip}
-use Rattle.chip_step.specs.declared.scsi_bus.Settled.TheVariants.{Selected, TimedOut}
+use Rattle.chip_step.specs.declared.scsi_bus.Settled.TheVariants.{Selected}
 use Rattle.straight_run.specs.Opening.{cdb, laid}
-
--- a call without its answer
-abbrev pub call_of : Event → Event
-call_of (Phase word shown) = Phase word None
-call_of (Shown shown) = Shown None
-call_of (ByteIn b) = ByteIn None
-call_of (ByteOut b taken) = ByteOut b false
-call_of (Select target word settled) = Select target word TimedOut
-call_of (Reselect word target) = Reselect word None
-call_of (SetAtn on) = SetAtn on
-call_of ClearAck = ClearAck
-call_of (Leave word gone) = Leave word false
 
 -- To each of these calls, one after another, the bus gives this answer and no other, and ends where P holds.
 abbrev pub Answers : {B : Type 0} → (B → Event → B → Type 0) → List Event → (B → Type 0) → B → Type 0

@@ -1,0 +1,5 @@
+pub mod Once
+pub mod Following
+pub mod Bytes
+pub mod Words
+pub mod Leaving

@@ -1,0 +1,5 @@
+use Rattle.chip_rows.proofs.Leaving.{runs_on}
+use Rattle.chip_rows.proofs.laws.step_runs_on.Goals as goal
+
+pub returns : goal.returns
+returns g c = runs_on g.B.Bus.moves

@@ -1,0 +1,5 @@
+use Rattle.chip_rows.proofs.Leaving as law
+use Rattle.chip_rows.proofs.laws.stops_leave_memory.Goals as goal
+
+pub returns : goal.returns
+returns g c = law.stops_leave_memory g.B.Bus.moves

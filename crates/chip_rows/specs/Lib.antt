@@ -1,0 +1,6 @@
+pub mod Answers
+pub mod Following
+pub mod Bytes
+pub mod Words
+pub mod Touched
+pub mod Leaving
