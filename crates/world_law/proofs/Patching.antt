@@ -22,7 +22,6 @@ use Rattle.world_law.specs.Repairs.{fixed, Fixes}
 use Rattle.world_law.specs.Builds.{decides, refuses, is_tried_again, Accepts, BuildsBy, BuildsOf}
 use Rattle.world_law.specs.Acts.{ActsOf}
 use Rattle.world_law.specs.Steps.{TakesOf, FreesTicket, Does}
-use Rattle.world_law.specs.Laws.{IsPatch}
 
 -- ---- Build
 
@@ -88,6 +87,11 @@ frees-ticket old t a b new other m n =
     let e : new.desk ≡ other.desk = frees_once old.desk t new.desk other.desk m.frees n.frees in
     let made : DeskState → World = λ d. record old { desk = d; reports = old.reports ++ report_at old.desk old.memory t ∷ [] } in
     (m.answer_is ∙ sym n.answer_is, m.world ∙ ap made e ∙ sym n.world)
+
+-- every step but the chip's
+abbrev pub IsPatch : Step → Type 0
+IsPatch (step.Chip word) = ⊥
+IsPatch _ = Unit {0}
 
 pub once : (g : Setting) (old : World) (caller : ℕ) (s : Step) (a b : Reply) (new other : World) → IsPatch s → Does g old caller s a new → Does g old caller s b other → (a ≡ b) × (new ≡ other)
 once g old caller (step.Build l) a b new other p m n = builds-of (command_at g l) old l a b new other m n
