@@ -1,0 +1,3 @@
+pub mod OpeningLaws
+pub mod Pieces
+pub mod TableLaws
