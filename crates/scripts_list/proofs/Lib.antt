@@ -5,3 +5,5 @@ pub mod Again
 pub mod Whole
 pub mod Entries
 pub mod Listed
+pub mod Beginnings
+pub mod OneListing

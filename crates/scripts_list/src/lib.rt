@@ -7,5 +7,5 @@ mod listing;
 mod tests;
 mod texts;
 
-pub use laws::{assembles_again, lists_all};
+pub use laws::{assembles_again, lists_all, one_listing};
 pub use listing::list;
