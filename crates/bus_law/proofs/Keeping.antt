@@ -54,6 +54,12 @@ no_byte : (asked : Bool) → if_asked asked None ≡ None
 no_byte true = refl
 no_byte false = refl
 
+byte-below : (asked : Bool) (o : Option ℕ) (byte : ℕ) → Some byte ≡ if_asked asked o → byte < 256
+byte-below true (Some x) byte e =
+    let f : byte ≡ x % 256 = cc in omega (arith, f)
+byte-below true None byte e = absurd cc
+byte-below false o byte e = absurd cc
+
 byte-acks : (id : Option ℕ) (b new : BusState) (byte : ℕ) → b.connected ≡ id → Some byte ≡ byte_of b → new ≡ after_byte_in id (Some byte) b → link_phase (link_on b) ≡ Some MsgIn → new.ack ≡ true
 byte-acks None b new byte e h m shown =
     let free : link_on b ≡ Free = ap (λ (x : Option ℕ). (device_of b x).target.link) e in
@@ -106,7 +112,8 @@ pub moves_lawfully : (units : List RigUnit) (live : ℕ → Nexus → Option ℕ
 moves_lawfully units live old (Phase word None) new m = ap (λ (b : BusState). is_none b.connected) m.1 ∙ turn-frees old.connected old word refl m.0
 moves_lawfully units live old (Phase word (Some p)) new m = ap (λ (b : BusState). is_none b.connected) m.1 ∙ turn-holds old.connected old word p refl m.0
 moves_lawfully units live old (Shown shown) new m = m.0
-moves_lawfully units live old (ByteIn (Some byte)) new m = λ shown. byte-acks old.connected old new byte refl m.0 m.1 shown
+moves_lawfully units live old (ByteIn (Some byte)) new m =
+    (byte-below (is_same_phase old.asked (link_phase (link_on old))) (link_byte (link_on old)) byte m.0, λ shown. byte-acks old.connected old new byte refl m.0 m.1 shown)
 moves_lawfully units live old (ByteIn None) new m = m.1 ∙ no_byte-stays old.connected old
 moves_lawfully units live old (ByteOut byte true) new m = tt
 moves_lawfully units live old (ByteOut byte false) new m = m.1

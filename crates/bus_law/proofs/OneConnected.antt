@@ -7,12 +7,12 @@ use Rattle.chip_step.specs.Event.{Event, Phase, Shown, ByteIn, ByteOut, Select, 
 use Rattle.target_law.specs.declared.nexus.Nexus.{Nexus}
 use Rattle.target_law.specs.Session.{Task}
 use Rattle.target_law.specs.Target.{LogicalUnit, Link, Free, Greeted, Commanded, Working, Straying, Target, unit_at, on_unit, target_opened, target_reset}
-use Rattle.target_law.specs.Calls.{is_free, link_phase, sent_if, is_rogue, selected_by, candidates_by, task_reselected, reselected_by, target_reselected}
+use Rattle.target_law.specs.Calls.{answers, is_free, link_phase, sent_if, is_rogue, selected_by, candidates_by, task_reselected, reselected_by, target_reselected}
 use Rattle.target_law.specs.Devices.{DeviceState, device_opened, lie_within, where_room}
 use Rattle.bus_law.specs.Bus.{BusState, no_device, device_at, link_on, free_if, with_device, becomes, units_of, bus_opened, device_reset, bus_reset}
 use Rattle.bus_law.specs.Choices.{turned, after_turn}
-use Rattle.bus_law.specs.Bytes.{sent, after_byte_in, begins, took, after_byte_out}
-use Rattle.bus_law.specs.Reselections.{Candidate, candidate_count, candidates_of, all_candidates, if_id, with_id, named_if, calls, candidate_named, device_reselected, reselected, after_reselection, answers, can_select, device_selected, after_selection}
+use Rattle.bus_law.specs.Bytes.{sent, after_byte_in, device_took, after_byte_out}
+use Rattle.bus_law.specs.Reselections.{Candidate, candidate_count, candidates_of, all_candidates, if_id, with_id, named_if, calls, candidate_named, device_reselected, reselected, after_reselection, can_select, device_selected, after_selection}
 use Rattle.bus_law.specs.Attention.{is_message_out, device_messaged, messaged, after_atn, device_acked, acked, after_ack}
 use Rattle.bus_law.specs.Moves.{moves}
 use Rattle.bus_law.specs.Laws.{OneConnected, HasResetRoom}
@@ -116,7 +116,7 @@ byte-in (Some id) (Some x) b e c =
 
 byte-out : (live : ℕ → Nexus → Option ℕ) (taken : Bool) (o : Option ℕ) (byte : ℕ) (b : BusState) → b.connected ≡ o → OneConnected b → OneConnected (after_byte_out live taken o byte b)
 byte-out live true None byte b e c = c
-byte-out live true (Some id) byte b e c = comes-to b id (begins live id (took live byte (device_at b id))) e c
+byte-out live true (Some id) byte b e c = comes-to b id (device_took live id (device_at b id) byte) e c
 byte-out live false None byte b e c = c
 byte-out live false (Some id) byte b e c = c
 
@@ -219,9 +219,12 @@ candidate-stands b c h =
     (λ e. let z : c.number < candidate_count (unit_at [] c.lun) = subst (λ (d : DeviceState). c.number < candidate_count (unit_at d.target.units c.lun)) e h in
     absurd (omega (arith, z, nobody-there c.lun)))
 
-answers-stands : (b : BusState) (id : ℕ) → answers (device_at b id) ≡ true → id < length b.devices
-answers-stands b id h =
-    stands b.devices id (λ e. let z : false ≡ true = sym (ap (λ (d : DeviceState). answers d) e) ∙ h in absurd cc)
+nobody-answers : answers no_device.target ≡ true → ⊥
+unfolding answers
+nobody-answers h = absurd cc
+
+answers-stands : (b : BusState) (id : ℕ) → answers (device_at b id).target ≡ true → id < length b.devices
+answers-stands b id h = stands b.devices id (λ e. nobody-answers (subst (λ (d : DeviceState). answers d.target ≡ true) e h))
 
 -- ---- selection and reselection
 
@@ -256,7 +259,7 @@ selects : (units : List RigUnit) (o : Option Candidate) (there : Bool) (id word 
     → OneConnected (after_selection o there id word b)
 selects units (Some x) there id word b e t c = named-connects units b word x e c
 selects units None true id word b e t c =
-    let h : (is_none b.connected ≡ true) × (answers (device_at b id) ≡ true) = first (is_none b.connected) (answers (device_at b id)) t in
+    let h : (is_none b.connected ≡ true) × (answers (device_at b id).target ≡ true) = first (is_none b.connected) (answers (device_at b id).target) t in
     held-here b id (device_selected (device_at b id)) (answers-stands b id h.1) (selected-holds (is_rogue (device_at b id).target))
     (λ k n. all-free b (none-is b.connected h.0) c k)
 selects units None false id word b e t c = c

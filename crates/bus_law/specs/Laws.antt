@@ -1,9 +1,10 @@
 -- Laws of the bus.
 use Rattle.std.specs.Prelude.{◌≡◌, ◌≢◌, ◌⊎◌, ℕ, false, true, List, Option, Some, None}
 use Rattle.rig_types.specs.declared.rig.Unit.{Unit as RigUnit}
-use Rattle.chip_step.specs.Event.{Event, Phase, Shown, ByteIn, ByteOut, Select, Reselect, SetAtn, ClearAck, Leave}
+use Rattle.chip_step.specs.Event.{Event, Select, Reselect}
 use Rattle.chip_step.specs.Laws.{IsLawful}
 use Rattle.chip_step.specs.declared.scsi_bus.Settled.TheVariants.{Selected, Reselected}
+use Rattle.chip_rows.specs.Answers.{HasOneAnswer, HasOneEnd}
 use Rattle.target_law.specs.declared.nexus.Nexus.{Nexus}
 use Rattle.target_law.specs.Target.{target_reset}
 use Rattle.target_law.specs.Calls.{is_free}
@@ -16,23 +17,13 @@ abbrev pub KeepsTheLaws : Type 0
 KeepsTheLaws = (units : List RigUnit) (live : ℕ → Nexus → Option ℕ) (old : BusState) (event : Event) (new : BusState) → moves units live old event new
     → IsLawful signals_of old event new
 
--- two calls with the same arguments
-abbrev pub SameCall : Event → Event → Type 0
-SameCall (Phase w a) (Phase x b) = w ≡ x
-SameCall (Shown a) (Shown b) = Unit {0}
-SameCall (ByteIn a) (ByteIn b) = Unit {0}
-SameCall (ByteOut x a) (ByteOut y b) = x ≡ y
-SameCall (Select s w a) (Select t x b) = (s ≡ t) × (w ≡ x)
-SameCall (Reselect w a) (Reselect x b) = w ≡ x
-SameCall (SetAtn a) (SetAtn b) = a ≡ b
-SameCall ClearAck ClearAck = Unit {0}
-SameCall (Leave w a) (Leave x b) = w ≡ x
-SameCall _ _ = ⊥
-
 -- a call has one answer and leaves one bus
-abbrev pub HasOneAnswer : Type 0
-HasOneAnswer = (units : List RigUnit) (live : ℕ → Nexus → Option ℕ) (old : BusState) (a b : Event) (new other : BusState) → SameCall a b
-    → moves units live old a new → moves units live old b other → (a ≡ b) × (new ≡ other)
+abbrev pub AnswersOnce : Type 0
+AnswersOnce = (units : List RigUnit) (live : ℕ → Nexus → Option ℕ) → HasOneAnswer (moves units live)
+
+-- so a step of the chip with a word has one end, and leaves one memory, one set of registers and one bus
+abbrev pub StepsOnce : Type 0
+StepsOnce = (units : List RigUnit) (live : ℕ → Nexus → Option ℕ) → HasOneEnd (moves units live)
 
 -- who is connected: a selection connects its target and a reselection the one that comes; every other call leaves it so or frees the bus
 abbrev pub Connects : BusState → Event → BusState → Type 0

@@ -6,7 +6,7 @@ use Rattle.rig_types.specs.declared.rig.Unit.{Unit as RigUnit}
 use Rattle.chip_step.specs.declared.scsi_bus.Settled.{Settled}
 use Rattle.chip_step.specs.declared.scsi_bus.Settled.TheVariants.{Selected, Reselected, TimedOut}
 use Rattle.target_law.specs.Target.{LogicalUnit, unit_at}
-use Rattle.target_law.specs.Calls.{candidates, target_selected, target_reselected}
+use Rattle.target_law.specs.Calls.{answers, candidates, target_selected, target_reselected}
 use Rattle.target_law.specs.Devices.{DeviceState}
 use Rattle.bus_law.specs.Bus.{BusState, device_at, with_device}
 
@@ -67,17 +67,9 @@ after_reselection (Some c) word b = reselected b word c
 
 -- ---- selection
 
--- a unit of the target is there and isn't absent
-abbrev pub is_present : Option LogicalUnit → Bool
-is_present None = false
-is_present (Some u) = not u.rig.absent
-
-abbrev pub answers : DeviceState → Bool
-answers d = list_any is_present d.target.units
-
 -- on a free bus a target that is there answers
 abbrev pub can_select : BusState → ℕ → Bool
-can_select b id = is_none b.connected && answers (device_at b id)
+can_select b id = is_none b.connected && answers (device_at b id).target
 
 -- a selection loses to a reselection; nobody answers on a bus that isn't free
 abbrev pub settles : Option Candidate → (there : Bool) → Settled

@@ -6,7 +6,7 @@ use Rattle.unit_law.specs.Request.{PlainRequest}
 use Rattle.host_map.specs.declared.TheConstants.{BLOCK_COUNT}
 use Rattle.host_map.specs.Places.{block_at}
 use Rattle.dma_buddy.specs.declared.buddies.Chunk.{Chunk}
-use Rattle.dma_buddy.specs.Regions.{TakesAll, IsListed}
+use Rattle.dma_buddy.specs.Regions.{TakesAll}
 use Rattle.desk_law.specs.declared.stage.Stage.TheVariants.{Built}
 use Rattle.desk_law.specs.declared.ticket.Piece.{Piece}
 use Rattle.desk_law.specs.declared.ticket.Ticket.{Ticket}
@@ -62,7 +62,6 @@ pub record Builds (old : DeskState) (memory : List ℕ) (l : Line) (r : PlainReq
   pub not_full : is_full old r.unit ≡ false
   pub chunks : List Chunk
   pub takes : TakesAll old.space r.segments chunks new.space
-  pub listed : IsListed new.space.free
   pub numbered : number ≡ length old.tickets
   pub desk : new ≡ record (desk_built old (new_ticket old l r chunks)) { space = new.space }
   pub wrote : memory' ≡ memory_built old memory (new_ticket old l r chunks) r

@@ -11,7 +11,7 @@ use Rattle.job_rings.specs.Rings.{next_slot, started}
 use Rattle.tag_tables.specs.Tables.{linked, unlinked}
 use Rattle.sense_job.specs.Turning.{with_fields, turned}
 use Rattle.dma_buddy.specs.declared.buddies.Chunk.{Chunk}
-use Rattle.dma_buddy.specs.Regions.{Space, Gives, IsListed}
+use Rattle.dma_buddy.specs.Regions.{Space, Gives}
 use Rattle.desk_law.specs.declared.stage.Stage.{Stage}
 use Rattle.desk_law.specs.declared.stage.Stage.TheVariants.{Linked, Queued, Again, Sensing, Ended, Unlinked, Freed}
 use Rattle.desk_law.specs.declared.ticket.Piece.{Piece}
@@ -80,7 +80,7 @@ ends d t o = with_ticket d t (ended (ticket d t) o)
 -- chunks are given back in order
 abbrev pub GivesAll : Space → List Chunk → Space → Type 0
 GivesAll s [] t = t ≡ s
-GivesAll s (c ∷ cs) t = (m : Space) × Gives s c m × IsListed m.free × GivesAll m cs t
+GivesAll s (c ∷ cs) t = (m : Space) × Gives s c m × GivesAll m cs t
 
 abbrev pub chunks_of : Ticket → List Chunk
 chunks_of k = map (λ (p : Piece). p.chunk) k.pieces

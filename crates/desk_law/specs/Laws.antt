@@ -2,13 +2,11 @@
 use Rattle.std.specs.Prelude.{◌≡◌, ℕ, List}
 use Rattle.rig_types.specs.declared.step.Line.{Line}
 use Rattle.unit_law.specs.Request.{PlainRequest}
-use Rattle.dma_buddy.specs.declared.buddies.Chunk.{Chunk}
-use Rattle.dma_buddy.specs.Regions.{Space, TakesAll, IsListed}
 use Rattle.desk_law.specs.declared.refused.Refused.{Refused}
 use Rattle.desk_law.specs.Desk.{DeskState}
 use Rattle.desk_law.specs.Refusals.{Refuses}
 use Rattle.desk_law.specs.Building.{Builds}
-use Rattle.desk_law.specs.Calls.{GivesAll, Frees}
+use Rattle.desk_law.specs.Calls.{Frees}
 
 -- a request is refused for one reason
 abbrev pub RefusesOnce : Type 0
@@ -27,12 +25,3 @@ BuildsOnce = (d : DeskState) (m : List ℕ) (l : Line) (r : PlainRequest) (t u :
 -- a ticket that is freed leaves one desk
 abbrev pub FreesOnce : Type 0
 FreesOnce = (d : DeskState) (t : ℕ) (new other : DeskState) → Frees d t new → Frees d t other → new ≡ other
-
--- chunks that are taken in order are one list, and leave one region
-abbrev pub TakesOnce : Type 0
-TakesOnce = (s t u : Space) (lens : List ℕ) (cs ds : List Chunk) → IsListed t.free → IsListed u.free → TakesAll s lens cs t → TakesAll s lens ds u
-    → (cs ≡ ds) × (t ≡ u)
-
--- chunks that are given back leave one region
-abbrev pub GivesOnce : Type 0
-GivesOnce = (s t u : Space) (cs : List Chunk) → GivesAll s cs t → GivesAll s cs u → t ≡ u

@@ -1,6 +1,6 @@
 //! Laws of the desk. Each function does nothing; its contract is the law.
 
-ghost use Rattle.desk_law.specs.Laws.{RefusesOnce, RefusesOrBuilds, BuildsOnce, FreesOnce, TakesOnce, GivesOnce};
+ghost use Rattle.desk_law.specs.Laws.{RefusesOnce, RefusesOrBuilds, BuildsOnce, FreesOnce};
 
 /// A request is refused for one reason, and one that is refused isn't built.
 pub fn refusals_are_one()
@@ -12,10 +12,4 @@ pub fn refusals_are_one()
 pub fn calls_are_one()
     ensures builds { BuildsOnce }
     ensures frees { FreesOnce }
-{}
-
-/// The chunks that are taken for a request are one list, and leave one region; so do chunks that are given back.
-pub fn chunks_are_one()
-    ensures takes { TakesOnce }
-    ensures gives { GivesOnce }
 {}

@@ -7,7 +7,7 @@ mod refused;
 mod stage;
 mod ticket;
 
-pub use laws::{calls_are_one, chunks_are_one, refusals_are_one};
+pub use laws::{calls_are_one, refusals_are_one};
 pub use refused::{Kind, Refused};
 pub use stage::{Stage, Taken};
 pub use ticket::{Piece, Pieces, Ticket};

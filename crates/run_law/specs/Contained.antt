@@ -3,6 +3,7 @@ use Rattle.std.specs.Prelude.{◌≡◌, ℕ, ◌+◌, ◌<◌, ◌≤◌, if◌
 use Rattle.std.specs.List.{range_with_len}
 use Rattle.scripts_ops.specs.declared.values.Op.{Op}
 use Rattle.chip_step.specs.Step.{IsAt}
+use Rattle.chip_rows.specs.Touched.{IsIn, touched}
 use Rattle.host_map.specs.declared.TheConstants.{BUFFERS, MEMORY_BYTES}
 use Rattle.host_map.specs.Places.{IsCommandBlock}
 use Rattle.cmd_block.specs.declared.TheConstants.{SENSE}
@@ -12,7 +13,6 @@ use Rattle.desk_law.specs.Desk.{DeskState, ticket, unit, lives, is_sensing}
 use Rattle.desk_law.specs.Blocks.{own}
 use Rattle.world_law.specs.World.{World}
 use Rattle.world_law.specs.ChipSteps.{chip_of}
-use Rattle.run_law.specs.Touched.{IsIn, touched}
 
 -- the 18 addresses of the sense area of a block
 abbrev pub sense_area : Ticket → List ℕ

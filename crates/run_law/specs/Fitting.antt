@@ -33,7 +33,7 @@ view g w u t = view_of (request_of g w) (plain_opened w u) (log_of w u) t
 
 -- a report fits, in the world w at the end of a run
 pub record ReportFits (g : Setting) (ms : List Moment) (w : World) (r : Report) : Type 0 where
-  pub fits : Fits (unit_setting g w r.unit) (request_of g w r.ticket) (view g w r.unit r.ticket) (history g r.unit r.ticket (opened g) ms) r
+  pub fits : Fits (unit_setting g w r.unit) r.ticket (request_of g w r.ticket) (view g w r.unit r.ticket) (history g r.unit r.ticket (opened g) ms) r
   pub sense_fits : SenseFits (unit_setting g w r.unit) (view g w r.unit r.ticket) (history g r.unit r.ticket (opened g) ms) r
 
 abbrev pub AllFit : Type 0

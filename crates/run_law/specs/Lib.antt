@@ -1,7 +1,6 @@
 pub mod Changes
 pub mod History
 pub mod Late
-pub mod Touched
 pub mod Contained
 pub mod Fitting
 pub mod Serial

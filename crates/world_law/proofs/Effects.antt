@@ -12,7 +12,6 @@ use Rattle.rig_types.specs.declared.report.Report.{Report}
 use Rattle.chip_regs.specs.Registers.{cause_of}
 use Rattle.chip_regs.specs.declared.registers.Cause.{Cause}
 use Rattle.chip_regs.specs.declared.registers.Cause.TheVariants as cause
-use Rattle.phase_fix.specs.declared.moves.DataMove.{DataMove}
 use Rattle.chip_step.specs.declared.outcome.StepEnd.{StepEnd}
 use Rattle.chip_step.specs.declared.outcome.StepEnd.TheVariants as end
 use Rattle.unit_law.specs.Request.{plain}
@@ -37,7 +36,7 @@ use Rattle.world_law.specs.Lines.{is_unqueued}
 use Rattle.world_law.specs.Stops.{is_clear, loses, job_done, to_sweep, is_done_by}
 use Rattle.world_law.specs.Enabling.{MayBuild, MayQueue, IsEnded, Enabled}
 use Rattle.world_law.specs.ChipSteps.{reply_for}
-use Rattle.world_law.specs.Repairs.{stopped_move, fixed}
+use Rattle.world_law.specs.Repairs.{fixed, not_fixed, Fixes}
 use Rattle.world_law.specs.Builds.{refuses, is_tried_again, BuildsBy, BuildsOf}
 use Rattle.world_law.specs.Acts.{is_late, marks, aborts, device_resets, cause_at, bus_resets, acts_by, ActsOf}
 use Rattle.world_law.specs.Steps.{TakesOf, Does}
@@ -319,9 +318,11 @@ not-built end.Idle = refl
 not-built end.Ran = refl
 not-built (end.Stopped c) = refl
 
-fixes : (g : Setting) (caller : ℕ) (o : Option DataMove) (old : World) → Effect g caller old reply.Made (fixed o old)
-fixes g caller None old = quiet g caller old (fixed None old) reply.Made refl refl refl refl
-fixes g caller (Some x) old = quiet g caller old (fixed (Some x) old) reply.Made refl refl refl refl
+fixes : (g : Setting) (caller : ℕ) (old : World) (a : Reply) (new : World) → a ≡ reply.Made → Fixes old new → Effect g caller old a new
+fixes g caller old a new e h = elim h [
+  | inl x ↦ led g caller old (fixed old x.move) reply.Made a new e x.world (quiet g caller old (fixed old x.move) reply.Made refl refl refl refl)
+  | inr x ↦ led g caller old (not_fixed old) reply.Made a new e x.1 (quiet g caller old (not_fixed old) reply.Made refl refl refl refl)
+]
 
 takes-by : (g : Setting) (caller : ℕ) (o : Option ℕ) (old : World) (a : Reply) (new : World) → is_done_by old o ≡ true → TakesOf o old a new → Effect g caller old a new
 takes-by g caller None old a new d m = absurd m
@@ -388,7 +389,7 @@ effect g old caller step.Signal a new e m =
     (signal g caller old _ reply.Made refl refl (λ s below other. unpaid caller s _ old.desk.due other) refl refl refl)
 effect g old caller (step.Chip word) a new e m =
     led g caller old _ (reply_for m.end) a new m.answer_is m.world (quiet g caller old _ (reply_for m.end) (not-built m.end) refl refl refl)
-effect g old caller step.Fix a new e m = led g caller old _ reply.Made a new m.0 m.1 (fixes g caller (stopped_move old) old)
+effect g old caller step.Fix a new e m = fixes g caller old a new m.0 m.1
 effect g old caller (step.Sweep t) a new e m =
     let k : Ticket = ticket old.desk t in
     led g caller old _ reply.Made a new m.0 m.1

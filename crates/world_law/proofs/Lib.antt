@@ -6,3 +6,4 @@ pub mod Tickets
 pub mod Numbering
 pub mod Callers
 pub mod Extending
+pub mod OneRun

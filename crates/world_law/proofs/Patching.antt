@@ -1,11 +1,13 @@
 -- A step of the driver has one answer and leaves one world.
-use Rattle.std.proofs.Common.{◌≡◌, ℕ, List, [], ◌∷◌, ◌++◌, Option, Some, None, slice_get, sym, ap, ◌∙◌}
+use Rattle.std.proofs.Common.{◌≡◌, ℕ, ◌-◌, List, [], ◌∷◌, ◌++◌, Option, Some, None, slice_get, sym, ap, ◌∙◌, ◌⊎◌, inl, inr}
 use Rattle.rig_types.specs.declared.commands.Command.{Command}
 use Rattle.rig_types.specs.declared.acts.Act.{Act}
 use Rattle.rig_types.specs.declared.step.Line.{Line}
 use Rattle.rig_types.specs.declared.step.Step.{Step}
 use Rattle.rig_types.specs.declared.step.Step.TheVariants as step
 use Rattle.unit_law.specs.Request.{PlainRequest, plain}
+use Rattle.phase_fix.specs.declared.moves.DataMove.{DataMove}
+use Rattle.phase_fix.specs.Moves.{move_at}
 use Rattle.desk_law.specs.declared.refused.Refused.{Refused}
 use Rattle.desk_law.specs.Desk.{DeskState, unit}
 use Rattle.desk_law.specs.Rings.{done_ticket}
@@ -16,10 +18,10 @@ use Rattle.world_law.specs.declared.reply.Reply.{Reply}
 use Rattle.world_law.specs.declared.reply.Reply.TheVariants as reply
 use Rattle.world_law.specs.World.{Setting, World, command_at}
 use Rattle.world_law.specs.Rooms.{with_room_at}
+use Rattle.world_law.specs.Repairs.{fixed, Fixes}
 use Rattle.world_law.specs.Builds.{decides, refuses, is_tried_again, Accepts, BuildsBy, BuildsOf}
 use Rattle.world_law.specs.Acts.{ActsOf}
 use Rattle.world_law.specs.Steps.{TakesOf, FreesTicket, Does}
-use Rattle.world_law.specs.Laws.{IsPatch}
 
 -- ---- Build
 
@@ -56,6 +58,22 @@ builds-of (Some c) old l a b new other m n = builds-by old l c a b new other m n
 
 -- ---- the others
 
+one-move : (o : Option DataMove) (x y : DataMove) → o ≡ Some x → o ≡ Some y → x ≡ y
+one-move None x y h k = absurd cc
+one-move (Some z) x y h k = let e : z ≡ x = cc in let f : z ≡ y = cc in sym e ∙ f
+
+fixes-once : (old new other : World) → Fixes old new → Fixes old other → new ≡ other
+fixes-once old new other h k = elim h [
+  | inl x ↦ elim k [
+      | inl y ↦ x.world ∙ ap (fixed old) (one-move (move_at (old.regs.dsp - 8)) x.move y.move x.is y.is) ∙ sym y.world
+      | inr y ↦ absurd (y.0 x.can_fix)
+    ]
+  | inr x ↦ elim k [
+      | inl y ↦ absurd (x.0 y.can_fix)
+      | inr y ↦ x.1 ∙ sym y.1
+    ]
+]
+
 takes-once : (o : Option ℕ) (old : World) (a b : Reply) (new other : World) → TakesOf o old a new → TakesOf o old b other → (a ≡ b) × (new ≡ other)
 takes-once None old a b new other m n = absurd m
 takes-once (Some t) old a b new other m n = (m.0 ∙ sym n.0, m.1 ∙ sym n.1)
@@ -70,13 +88,18 @@ frees-ticket old t a b new other m n =
     let made : DeskState → World = λ d. record old { desk = d; reports = old.reports ++ report_at old.desk old.memory t ∷ [] } in
     (m.answer_is ∙ sym n.answer_is, m.world ∙ ap made e ∙ sym n.world)
 
+-- every step but the chip's
+abbrev pub IsPatch : Step → Type 0
+IsPatch (step.Chip word) = ⊥
+IsPatch _ = Unit {0}
+
 pub once : (g : Setting) (old : World) (caller : ℕ) (s : Step) (a b : Reply) (new other : World) → IsPatch s → Does g old caller s a new → Does g old caller s b other → (a ≡ b) × (new ≡ other)
 once g old caller (step.Build l) a b new other p m n = builds-of (command_at g l) old l a b new other m n
 once g old caller (step.Link t) a b new other p m n = (m.0 ∙ sym n.0, m.1 ∙ sym n.1)
 once g old caller (step.Queue t) a b new other p m n = (m.0 ∙ sym n.0, m.1 ∙ sym n.1)
 once g old caller step.Signal a b new other p m n = (m.0 ∙ sym n.0, m.1 ∙ sym n.1)
 once g old caller (step.Chip word) a b new other p m n = absurd p
-once g old caller step.Fix a b new other p m n = (m.0 ∙ sym n.0, m.1 ∙ sym n.1)
+once g old caller step.Fix a b new other p m n = (m.0 ∙ sym n.0, fixes-once old new other m.1 n.1)
 once g old caller (step.Sweep t) a b new other p m n = (m.0 ∙ sym n.0, m.1 ∙ sym n.1)
 once g old caller step.Restart a b new other p m n = (m.0 ∙ sym n.0, m.1 ∙ sym n.1)
 once g old caller step.TakeDone a b new other p m n = takes-once (done_ticket old.memory old.desk) old a b new other m n

@@ -2,7 +2,7 @@
 use Rattle.std.specs.Prelude.{◌≡◌, ◌≢◌, ◌<◌, ℕ, true, List, [], ◌∷◌, ◌++◌, length, slice_set}
 use Rattle.std.specs.List.{range_with_len, All, AllPairs}
 use Rattle.rig_types.specs.declared.step.Step.{Step}
-use Rattle.rig_types.specs.declared.step.Step.TheVariants as step
+use Rattle.rig_types.specs.declared.step.Entry.{Entry}
 use Rattle.rig_types.specs.declared.report.Report.{Report}
 use Rattle.rig_types.specs.declared.commands.Command.{Command}
 use Rattle.desk_law.specs.declared.ticket.Ticket.{Ticket}
@@ -13,7 +13,8 @@ use Rattle.world_law.specs.Opening.{opened}
 use Rattle.world_law.specs.Lines.{is_unqueued, drained}
 use Rattle.world_law.specs.Enabling.{Enabled}
 use Rattle.world_law.specs.Steps.{Does}
-use Rattle.world_law.specs.Runs.{Moment, Steps, IsRun, last, accepted}
+use Rattle.world_law.specs.Runs.{Moment, Steps, IsRun, last, accepted, entries, IsLawful}
+use Rattle.world_law.specs.Traces.{trace}
 
 -- a run one moment longer is the run, and then this moment in the world after it
 abbrev pub GoesOn : Type 0
@@ -23,15 +24,18 @@ GoesOn = (g : Setting) (w : World) (ms : List Moment) (m : Moment) → IsRun g w
 abbrev pub RestsDrained : Type 0
 RestsDrained = (g : Setting) (w : World) (caller : ℕ) (s : Step) → drained g w ≡ true → Enabled g w caller s → ⊥
 
--- every step but the chip's
-abbrev pub IsPatch : Step → Type 0
-IsPatch (step.Chip word) = ⊥
-IsPatch _ = Unit {0}
-
--- such a step has one answer, and leaves one world
-abbrev pub PatchesOnce : Type 0
-PatchesOnce = (g : Setting) (old : World) (caller : ℕ) (s : Step) (a b : Reply) (new other : World) → IsPatch s → Does g old caller s a new
+-- a step has one answer, and leaves one world
+abbrev pub DoesOnce : Type 0
+DoesOnce = (g : Setting) (old : World) (caller : ℕ) (s : Step) (a b : Reply) (new other : World) → Does g old caller s a new
     → Does g old caller s b other → (a ≡ b) × (new ≡ other)
+
+-- a list of entries has one run from a world on
+abbrev pub RunsOnce : Type 0
+RunsOnce = (g : Setting) (w : World) (ms ns : List Moment) → entries ms ≡ entries ns → IsRun g w ms → IsRun g w ns → ms ≡ ns
+
+-- a trace has one lawful list
+abbrev pub TracesOne : Type 0
+TracesOne = (g : Setting) (es fs : List Entry) → IsLawful g es → IsLawful g fs → trace es ≡ trace fs → es ≡ fs
 
 -- the tickets of a run are numbered as they were accepted, every report is of one of them, and two reports are of two
 pub record NumbersTickets (w : World) (ms : List Moment) : Type 0 where

@@ -11,7 +11,7 @@ use Rattle.world_law.specs.declared.reply.Reply.{Reply}
 use Rattle.world_law.specs.declared.reply.Reply.TheVariants as reply
 use Rattle.world_law.specs.World.{Setting, World, command_at}
 use Rattle.world_law.specs.ChipSteps.{RunsChip}
-use Rattle.world_law.specs.Repairs.{stopped_move, fixed}
+use Rattle.world_law.specs.Repairs.{Fixes}
 use Rattle.world_law.specs.Resets.{sweeps, restarts, resets}
 use Rattle.world_law.specs.Builds.{BuildsOf}
 use Rattle.world_law.specs.Acts.{ActsOf}
@@ -44,7 +44,7 @@ Does g old caller (step.Link t) answer new = Makes (record old { memory = link_m
 Does g old caller (step.Queue t) answer new = Makes (record old { memory = queue_memory old.desk t old.memory; desk = queues old.desk t }) answer new
 Does g old caller step.Signal answer new = Makes (record old { regs = signalled old.regs; desk = paid old.desk caller }) answer new
 Does g old caller (step.Chip word) answer new = RunsChip old word answer new
-Does g old caller step.Fix answer new = Makes (fixed (stopped_move old) old) answer new
+Does g old caller step.Fix answer new = (answer ≡ reply.Made) × Fixes old new
 Does g old caller (step.Sweep t) answer new = Makes (sweeps old t) answer new
 Does g old caller step.Restart answer new = Makes (restarts old) answer new
 Does g old caller step.TakeDone answer new = TakesOf (done_ticket old.memory old.desk) old answer new

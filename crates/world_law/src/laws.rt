@@ -1,6 +1,6 @@
 //! Laws of the world. Each function does nothing; its contract is the law.
 
-ghost use Rattle.world_law.specs.Laws.{GoesOn, RestsDrained, PatchesOnce, ReportsAccepted, OthersLeave, Extends};
+ghost use Rattle.world_law.specs.Laws.{GoesOn, RestsDrained, DoesOnce, RunsOnce, TracesOne, ReportsAccepted, OthersLeave, Extends};
 
 /// A run one moment longer is the run, and then this moment.
 pub fn one_moment_longer()
@@ -12,9 +12,12 @@ pub fn rests_drained()
     ensures { RestsDrained }
 {}
 
-/// A step of the driver has one answer and leaves one world.
-pub fn patches_once()
-    ensures { PatchesOnce }
+/// A step has one answer and leaves one world; so a list of entries has one run, and a trace one lawful list: the
+/// callers that it doesn't tell are fixed by the world.
+pub fn one_run()
+    ensures step { DoesOnce }
+    ensures entries { RunsOnce }
+    ensures trace { TracesOne }
 {}
 
 /// The tickets of a run are numbered as they were accepted, and every report is of one of them, at most once.
