@@ -5,11 +5,9 @@ use Rattle.bench_words.specs.Views.{Wrote, WroteWithin}
 use Rattle.bench_words.proofs.MemoryLaws.{length-put_word, wrote-put_word}
 use Rattle.host_map.specs.declared.TheConstants.{FRONT, FRONT_IDLE, JOB}
 use Rattle.host_map.specs.Places.{IsCommandBlock}
-use Rattle.host_map.proofs.MapLaws.{place_of_command}
 use Rattle.cmd_block.specs.Block.{offset}
 use Rattle.cmd_block.specs.declared.Field.TheVariants.{Start, Restart, State, Sel, Gate}
 use Rattle.cmd_block.specs.declared.TheConstants.{SWEPT}
-use Rattle.cmd_block.proofs.FieldLaws.{wrote-field}
 use Rattle.driver_script.specs.Script.{label_of}
 use Rattle.driver_script.specs.declared.labels.Name.TheVariants as label
 use Rattle.abort_reset.specs.Patches.{marked, job_at_front, idle_at_front, swept, Marked, JobAtFront, Swept}
@@ -18,8 +16,8 @@ pub marked_is : (m : List ℕ) (block : ℕ) → length m ≡ 0x400000 → IsCom
 marked_is m block size is =
     let m1 = put_word m (block + offset Start) (label_of label.Cancel) in
     let s1 = length-put_word m (block + offset Start) (label_of label.Cancel) ∙ size in
-    let first = wrote-field m block (label_of label.Cancel) Start size (place_of_command block is) tt (lit< tt) in
-    let second = wrote-field m1 block (label_of label.Abort) Restart s1 (place_of_command block is) tt (lit< tt) in
+    let first = wrote-put_word m (block + offset Start) (label_of label.Cancel) (omega (arith, is.below)) (lit< tt) in
+    let second = wrote-put_word m1 (block + offset Restart) (label_of label.Abort) (omega (arith, is.below)) (lit< tt) in
     record {
       start = second.other (block + offset Start) (omega arith) ∙ first.same;
       restart = second.same;
@@ -30,8 +28,8 @@ pub swept_is : (m : List ℕ) (block : ℕ) → length m ≡ 0x400000 → IsComm
 swept_is m block size is =
     let m1 = put_word m (block + offset State) SWEPT in
     let s1 = length-put_word m (block + offset State) SWEPT ∙ size in
-    let first = wrote-field m block SWEPT State size (place_of_command block is) tt (lit< tt) in
-    let second = wrote-field m1 block (label_of label.Badtask) Gate s1 (place_of_command block is) tt (lit< tt) in
+    let first = wrote-put_word m (block + offset State) SWEPT (omega (arith, is.below)) (lit< tt) in
+    let second = wrote-put_word m1 (block + offset Gate) (label_of label.Badtask) (omega (arith, is.below)) (lit< tt) in
     record {
       state = second.other (block + offset State) (omega arith) ∙ first.same;
       gate = second.same;

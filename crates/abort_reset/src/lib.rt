@@ -27,7 +27,8 @@ pub fn mark(words: &mut Words, block: u32)
     requires block { IsCommandBlock block }
     ensures wrote { words.new ≡ marked words.old block }
     ensures words { Marked (word_at words.old) (word_at words.new) block }
-    ensures within { WroteWithin (word_at words.old) (word_at words.new) (block + offset Field.Start) (block + offset Field.Restart + 4) }
+    ensures within { WroteWithin (word_at words.old) (word_at words.new)
+        (block + offset Field.Start) (block + offset Field.Restart + 4) }
     ensures size { length words.new ≡ length words.old }
 {
     write(words, block, Field::Start, label(Name::Cancel));
@@ -63,7 +64,8 @@ pub fn sweep(words: &mut Words, block: u32)
     requires block { IsCommandBlock block }
     ensures wrote { words.new ≡ swept words.old block }
     ensures words { Swept (word_at words.old) (word_at words.new) block }
-    ensures within { WroteWithin (word_at words.old) (word_at words.new) (block + offset Field.State) (block + offset Field.Gate + 4) }
+    ensures within { WroteWithin (word_at words.old) (word_at words.new)
+        (block + offset Field.State) (block + offset Field.Gate + 4) }
     ensures size { length words.new ≡ length words.old }
 {
     write(words, block, Field::State, SWEPT);

@@ -2,7 +2,7 @@
 -- its phase, and nowhere else has the script a move of a data phase.
 use Rattle.std.proofs.Common.{◌≡◌, ℕ, zero, suc, pos, ◌*◌, ◌/◌, ◌%◌, ◌<◌, ◌⊎◌, inl, inr, Bool, true, false, ◌&&◌, not, nat_eq, Option, Some, None, refl, arith}
 use Rattle.std.specs.Prelude.{if◌then◌else◌, slice_index_or}
-use Rattle.std.proofs.lemmas.Bool.{cases_order, false≢true}
+use Rattle.std.proofs.lemmas.Bool.{and_parts, cases_order, false≢true}
 use Rattle.std.proofs.lemmas.Bool.Decides.{nat_tests}
 use Rattle.scripts_ops.specs.declared.values.Op.{Op}
 use Rattle.scripts_ops.specs.declared.values.Op.TheVariants.{MoveFrom, Jump, Nop}
@@ -40,11 +40,6 @@ all_agree : all_below 151 test ≡ true
 unfolding move_at
 all_agree = refl
 
-both : (a b : Bool) → a && b ≡ true → (a ≡ true) × (b ≡ true)
-both true true h = (refl, refl)
-both true false h = absurd (false≢true h)
-both false b h = absurd (false≢true h)
-
 below_or : (n k : ℕ) (t : ℕ → Bool) → (t n ≡ true) × (all_below n t ≡ true) → (k < n → t k ≡ true) → (k ≡ n) ⊎ ((k < n) ⊎ (n < k)) → k < suc n → t k ≡ true
 below_or n k t h rest (inl e) b = rw e h.0
 below_or n k t h rest (inr (inl l)) b = rest l
@@ -53,7 +48,7 @@ below_or n k t h rest (inr (inr l)) b = absurd (omega arith)
 below : (n k : ℕ) (t : ℕ → Bool) → all_below n t ≡ true → k < n → t k ≡ true
 below zero k t h b = absurd (omega arith)
 below (suc n) k t h b =
-    let all = both (t n) (all_below n t) h in
+    let all = and_parts (t n) (all_below n t) h in
     below_or n k t all (λ l. below n k t all.1 l) (cases_order k n) b
 
 -- the one instruction in which the versions differ is no data move
@@ -67,7 +62,7 @@ at_188 = refl
 
 changed : (k version : ℕ) → nat_eq k 0x31 && nat_eq version 2 ≡ true → agrees (move_at (8 * k)) (Jump Always 0x460) ≡ true
 changed k version h =
-    let e : k ≡ 0x31 = grind (arith, nat_tests, both (nat_eq k 0x31) (nat_eq version 2) h) in
+    let e : k ≡ 0x31 = grind (arith, nat_tests, and_parts (nat_eq k 0x31) (nat_eq version 2) h) in
     rw (e, at_188) refl
 
 agree_at : (k version : ℕ) → k < 151 → agrees (move_at (8 * k)) (instruction k version) ≡ true
@@ -79,7 +74,7 @@ agree_at k version h =
 
 same_fields : (o p q c : ℕ) → nat_eq o q && nat_eq p c ≡ true → (o ≡ q) × (p ≡ c)
 same_fields o p q c h =
-    let b = both (nat_eq o q) (nat_eq p c) h in
+    let b = and_parts (nat_eq o q) (nat_eq p c) h in
     (grind (arith, nat_tests, b.0), grind (arith, nat_tests, b.1))
 
 same-is : (op : Op) (x : DataMove) → same op x ≡ true → op ≡ instruction_of x

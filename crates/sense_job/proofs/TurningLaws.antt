@@ -4,7 +4,6 @@ use Rattle.bench_words.specs.Memory.{word_at, put_bytes, bytes_at}
 use Rattle.bench_words.specs.Views.{Apart, Outside, WroteWithin}
 use Rattle.bench_words.proofs.MemoryLaws.{byte_inside, bytes_same, wrote-put_bytes}
 use Rattle.host_map.specs.Places.{IsCommandBlock}
-use Rattle.host_map.proofs.MapLaws.{place_of_command}
 use Rattle.cmd_block.specs.Block.{offset}
 use Rattle.cmd_block.specs.declared.Field.TheVariants.{Start, SegCount, SegAt}
 use Rattle.cmd_block.specs.declared.TheConstants.{CDB, SENSE as SENSE_AREA}
@@ -33,7 +32,7 @@ field-turned : (m : List ℕ) (block k : ℕ) → length m ≡ 0x400000 → IsCo
 field-turned m block k size is h low =
     let o = offset (nth (sense_fields block) k).0 in
     (wrote-put_bytes (with_fields m block (sense_fields block)) (block + CDB) request_sense).other (block + o) (before_command block o low)
-    ∙ with_fields-same m block (sense_fields block) k size (place_of_command block is) (fields_fit block is) (fields_distinct block) h
+    ∙ with_fields-same m block (sense_fields block) k (omega (arith, is.below)) (fields_fit block is) (fields_distinct block) h
 
 -- ---- the command
 
@@ -84,7 +83,7 @@ turned_is m block size is =
       command = (rw here at (word_inside fields (block + CDB) 0 request_sense fits (lit≤ tt)) ∙ first_word, word_inside fields (block + CDB) 2 request_sense fits (lit≤ tt) ∙ last_word);
       other = λ a start pointers entry segment command.
           (wrote-put_bytes fields (block + CDB) request_sense).other a command
-          ∙ with_fields-other m block (sense_fields block) a size (place_of_command block is) (fields_fit block is) (
+          ∙ with_fields-other m block (sense_fields block) a (omega (arith, is.below)) (fields_fit block is) (
             apart_in block 0x00 0x00 0x04 a (lit≤ tt) (lit≤ tt) start,
             (
               apart_in block 0x10 0x08 0x18 a (lit≤ tt) (lit≤ tt) pointers,

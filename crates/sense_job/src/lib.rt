@@ -31,7 +31,8 @@ pub fn turn(words: &mut Words, block: u32)
     requires block { IsCommandBlock block }
     ensures wrote { words.new ≡ turned words.old block }
     ensures words { Turned (word_at words.old) (word_at words.new) block }
-    ensures within { WroteWithin (word_at words.old) (word_at words.new) (block + offset Field.Start) (block + CDB + 6) }
+    ensures within { WroteWithin (word_at words.old) (word_at words.new)
+        (block + offset Field.Start) (block + CDB + 6) }
     ensures size { length words.new ≡ length words.old }
     ensures command { bytes_at words.new (block + CDB) 6 ≡ request_sense }
     ensures last { remain (word_at words.new) block (field_of words.new block Field.Lastp) ≡ sense_area block }
