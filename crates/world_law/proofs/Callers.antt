@@ -19,6 +19,6 @@ leaves_submitter g old m s below n h =
     record {
       lines = other-lines g m.entry.caller s old m.after x.lines n;
       due = x.due s below n;
-      held = λ t k. held_stays m.entry.caller s old.desk.tickets m.after.desk.tickets x.tickets n t (inl k);
-      no_more = λ t k. held_stays m.entry.caller s old.desk.tickets m.after.desk.tickets x.tickets n t (inr k);
+      held = λ t k. held_stays m.entry.caller s old.desk.tickets m.after.desk.tickets m.after.reports x.tickets n t (inl k);
+      no_more = λ t k. held_stays m.entry.caller s old.desk.tickets m.after.desk.tickets m.after.reports x.tickets n t (inr k);
     }

@@ -155,3 +155,7 @@ pub rests : (g : Setting) (w : World) (caller : ℕ) (s : Step) → drained g w 
 rests g w caller s d m =
     let r : Rested g w = rested g w d in
     rests_by g w caller s d r (λ t. all-freed w.desk.tickets t r.freed) m
+
+-- where the world is drained, every ticket is freed
+pub drained-freed : (g : Setting) (w : World) → drained g w ≡ true → (t : ℕ) → is_freed (ticket w.desk t).stage ≡ true
+drained-freed g w d t = all-freed w.desk.tickets t (rested g w d).freed

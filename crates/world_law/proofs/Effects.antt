@@ -1,5 +1,7 @@
 -- What each recorded step leaves: of the tickets, the reports, the lines and the due signals.
 use Rattle.std.proofs.Common.{arith, ◌≡◌, ◌≢◌, ◌<◌, ◌≤◌, ℕ, zero, suc, ◌+◌, ◌==◌, Bool, true, false, ◌&&◌, ◌||◌, not, List, [], ◌∷◌, ◌++◌, length, slice_get, slice_set, slice_index_or, Option, Some, None, refl, sym, ap, subst, ◌∙◌, ◌⊎◌, inl, inr}
+use Rattle.std.specs.List.{list_any}
+use Rattle.std.proofs.lemmas.Bool.Decides.{nat_tests}
 use Rattle.std.proofs.lemmas.List.{get_or-set_other}
 use Rattle.rig_types.specs.declared.commands.Command.{Command}
 use Rattle.rig_types.specs.declared.acts.Act.{Act}
@@ -41,6 +43,7 @@ use Rattle.world_law.specs.Builds.{refuses, is_tried_again, BuildsBy, BuildsOf}
 use Rattle.world_law.specs.Acts.{is_late, marks, aborts, device_resets, cause_at, bus_resets, acts_by, ActsOf}
 use Rattle.world_law.specs.Steps.{TakesOf, Does}
 use Rattle.world_law.specs.Runs.{built}
+use Rattle.world_law.specs.Laws.{is_report_of}
 
 abbrev at : List Ticket → ℕ → Ticket
 at ks t = slice_index_or ks t no_ticket
@@ -53,19 +56,26 @@ pub record GoesOn (caller : ℕ) (old new : Ticket) : Type 0 where
   pub line : new.line ≡ old.line
   pub whose : (caller ≡ old.line.submitter) ⊎ ((is_unqueued old.stage ≡ false) × (is_unqueued new.stage ≡ false))
 
-pub record OneChanges (caller : ℕ) (old new : List Ticket) : Type 0 where
+-- the reports tell of a ticket
+abbrev pub IsTold : List Report → ℕ → Type 0
+IsTold rs t = list_any (is_report_of t) rs ≡ true
+
+-- one that is freed is told of
+pub record OneChanges (told : List Report) (caller : ℕ) (old new : List Ticket) : Type 0 where
   pub number : ℕ
   pub ticket : Ticket
+  pub freed : (is_freed ticket.stage ≡ false) ⊎ IsTold told number
   pub goes_on : GoesOn caller (at old number) ticket
   pub are : new ≡ slice_set old number ticket
 
 pub record OneMore (caller : ℕ) (old new : List Ticket) : Type 0 where
   pub ticket : Ticket
+  pub live : is_freed ticket.stage ≡ false
   pub by : ticket.line.submitter ≡ caller
   pub are : new ≡ old ++ ticket ∷ []
 
-abbrev pub Changes : (caller : ℕ) → (old new : List Ticket) → Type 0
-Changes caller old new = (new ≡ old) ⊎ (OneChanges caller old new ⊎ OneMore caller old new)
+abbrev pub Changes : (told : List Report) → (caller : ℕ) → (old new : List Ticket) → Type 0
+Changes told caller old new = (new ≡ old) ⊎ (OneChanges told caller old new ⊎ OneMore caller old new)
 
 -- ---- and to the rest
 
@@ -92,7 +102,7 @@ abbrev pub LinesGo : Setting → ℕ → World → World → Type 0
 LinesGo g caller old new = (new.lines ≡ old.lines) ⊎ OneLine g caller old new
 
 pub record Effect (g : Setting) (caller : ℕ) (old : World) (answer : Reply) (new : World) : Type 0 where
-  pub tickets : Changes caller old.desk.tickets new.desk.tickets
+  pub tickets : Changes new.reports caller old.desk.tickets new.desk.tickets
   pub counted : Counted old.desk.tickets (built answer) new.desk.tickets
   pub reports : Reports old new
   pub lines : LinesGo g caller old new
@@ -138,9 +148,10 @@ abbrev DueStays : ℕ → DeskState → DeskState → Type 0
 DueStays caller old new = (s : ℕ) → s < old.submitters → s ≢ caller → due new s ≡ due old s
 
 goes : (g : Setting) (caller : ℕ) (old made : World) (answer : Reply) (t : ℕ) (k : Ticket) → built answer ≡ None → made.desk.tickets ≡ slice_set old.desk.tickets t k → GoesOn caller (ticket old.desk t) k
-    → DueStays caller old.desk made.desk → made.desk.submitters ≡ old.desk.submitters → made.lines ≡ old.lines → Reports old made → Effect g caller old answer made
-goes g caller old made answer t k n e go d u l r = record {
-  tickets = inr (inl (record { number = t; ticket = k; goes_on = go; are = e }));
+    → (is_freed k.stage ≡ false) ⊎ IsTold made.reports t → DueStays caller old.desk made.desk → made.desk.submitters ≡ old.desk.submitters → made.lines ≡ old.lines → Reports old made
+    → Effect g caller old answer made
+goes g caller old made answer t k n e go f d u l r = record {
+  tickets = inr (inl (record { number = t; ticket = k; freed = f; goes_on = go; are = e }));
   counted = inl (n, ap (λ (ks : List Ticket). length ks) e ∙ set-length old.desk.tickets t k);
   reports = r;
   lines = inl l;
@@ -238,11 +249,12 @@ swept-way : (w : World) (k : Ticket) → to_sweep w k ≡ true → (is_freed k.s
 swept-way w k h = lost-way w k (cause_of w.regs) (parts _ _ (parts _ _ (parts (is_clear w.stop) _ h).1).1).1
 
 -- whatever is made of a ticket that is taken
-taken-as : (sensing again check : Bool) (m : List ℕ) (k : Ticket) → ((taken_by sensing again check m k).line ≡ k.line) × (is_unqueued (taken_by sensing again check m k).stage ≡ false)
-taken-as true again check m k = (refl, refl)
-taken-as false true check m k = (refl, refl)
-taken-as false false true m k = (refl, refl)
-taken-as false false false m k = (refl, refl)
+taken-as : (sensing again check : Bool) (m : List ℕ) (k : Ticket)
+    → ((taken_by sensing again check m k).line ≡ k.line) × (is_unqueued (taken_by sensing again check m k).stage ≡ false) × (is_freed (taken_by sensing again check m k).stage ≡ false)
+taken-as true again check m k = (refl, refl, refl)
+taken-as false true check m k = (refl, refl, refl)
+taken-as false false true m k = (refl, refl, refl)
+taken-as false false false m k = (refl, refl, refl)
 
 -- ---- Build
 
@@ -265,6 +277,7 @@ builds : (g : Setting) (caller : ℕ) (c : Command) (old : World) (l : Line) (a 
 builds g caller c old l (reply.Built t) new e m = record {
   tickets = inr (inr (record {
     ticket = new_ticket old.desk l (plain c.request) m.builds.chunks;
+    live = refl;
     by = sym e.own;
     are = ap (λ (d : DeskState). d.tickets) m.builds.desk;
   }));
@@ -329,10 +342,10 @@ takes-by g caller None old a new d m = absurd m
 takes-by g caller (Some t) old a new d m =
     let k : Ticket = ticket old.desk t in
     let w : (is_freed k.stage ≡ false) × (is_unqueued k.stage ≡ false) = on-its-way k.stage _ d in
-    let x : ((taken old.desk old.memory k).line ≡ k.line) × (is_unqueued (taken old.desk old.memory k).stage ≡ false) =
+    let x : ((taken old.desk old.memory k).line ≡ k.line) × (is_unqueued (taken old.desk old.memory k).stage ≡ false) × (is_freed (taken old.desk old.memory k).stage ≡ false) =
     taken-as (is_sensing k.stage) (is_again old.desk old.memory k) (is_check old.desk old.memory k) old.memory k in
     led g caller old _ (reply.Taken t) a new m.0 m.1
-    (goes g caller old _ (reply.Taken t) t (taken old.desk old.memory k) refl refl (record { live = w.0; line = x.0; whose = inr (w.1, x.1) }) (λ s below other. refl) refl refl (inl refl))
+    (goes g caller old _ (reply.Taken t) t (taken old.desk old.memory k) refl refl (record { live = w.0; line = x.0; whose = inr (w.1, x.1) }) (inl x.2) (λ s below other. refl) refl refl (inl refl))
 
 marked : (g : Setting) (caller : ℕ) (late : Bool) (old : World) (t : ℕ) → Effect g caller old (marks late old t).answer (marks late old t).world
 marked g caller true old t = quiet g caller old _ reply.TooLate refl refl refl refl
@@ -370,6 +383,17 @@ on-to caller old new w l u = record { live = w.0; line = l; whose = inr (w.1, u)
 of-stage : (k : Ticket) (x : Stage) → k.stage ≡ x → is_freed x ≡ false → is_unqueued x ≡ false → (is_freed k.stage ≡ false) × (is_unqueued k.stage ≡ false)
 of-stage k x e f u = (stage-is k.stage x is_freed false e f, stage-is k.stage x is_unqueued false e u)
 
+told-last : (rs : List Report) (r : Report) → list_any (is_report_of r.ticket) (rs ++ r ∷ []) ≡ true
+told-last [] r = same-number r.ticket
+  where
+    same-number : (n : ℕ) → (n == n) || false ≡ true
+    same-number n = grind (arith, nat_tests)
+told-last (x ∷ xs) r = or-true (x.ticket == r.ticket) (list_any (is_report_of r.ticket) (xs ++ r ∷ [])) (told-last xs r)
+  where
+    or-true : (a b : Bool) → b ≡ true → a || b ≡ true
+    or-true true b h = refl
+    or-true false b h = h
+
 set-freed : (ks : List Ticket) (t : ℕ) (k : Ticket) → t < length ks → is_freed k.stage ≡ true → is_freed (at (slice_set ks t k) t).stage ≡ true
 set-freed [] t k l f = absurd (omega (arith, l))
 set-freed (x ∷ xs) zero k l f = f
@@ -379,11 +403,11 @@ pub effect : (g : Setting) (old : World) (caller : ℕ) (s : Step) (a : Reply) (
 effect g old caller (step.Build l) a new e m = builds-of g caller (command_at g l) old l a new e m
 effect g old caller (step.Link t) a new e m =
     led g caller old _ reply.Made a new m.0 m.1
-    (goes g caller old _ reply.Made t _ refl refl (record { live = stage-is (ticket old.desk t).stage stage.Built is_freed false e.0 refl; line = refl; whose = inl e.1 }) (λ x below other. refl) refl refl (inl refl))
+    (goes g caller old _ reply.Made t _ refl refl (record { live = stage-is (ticket old.desk t).stage stage.Built is_freed false e.0 refl; line = refl; whose = inl e.1 }) (inl refl) (λ x below other. refl) refl refl (inl refl))
 effect g old caller (step.Queue t) a new e m =
     let k : Ticket = ticket old.desk t in
     led g caller old _ reply.Made a new m.0 m.1
-    (goes g caller old _ reply.Made t (record k { stage = stage.Queued; tries = k.tries + 1 }) refl refl (queues-by k.stage old caller k _ refl e refl refl) (queue-due k.stage old caller _ k e) refl refl (inl refl))
+    (goes g caller old _ reply.Made t (record k { stage = stage.Queued; tries = k.tries + 1 }) refl refl (queues-by k.stage old caller k _ refl e refl refl) (inl refl) (queue-due k.stage old caller _ k e) refl refl (inl refl))
 effect g old caller step.Signal a new e m =
     led g caller old _ reply.Made a new m.0 m.1
     (signal g caller old _ reply.Made refl refl (λ s below other. unpaid caller s _ old.desk.due other) refl refl refl)
@@ -393,18 +417,18 @@ effect g old caller step.Fix a new e m = fixes g caller old a new m.0 m.1
 effect g old caller (step.Sweep t) a new e m =
     let k : Ticket = ticket old.desk t in
     led g caller old _ reply.Made a new m.0 m.1
-    (goes g caller old _ reply.Made t _ refl refl (on-to caller k _ (swept-way old k e.1) refl refl) (λ s below other. refl) refl refl (inl refl))
+    (goes g caller old _ reply.Made t _ refl refl (on-to caller k _ (swept-way old k e.1) refl refl) (inl refl) (λ s below other. refl) refl refl (inl refl))
 effect g old caller step.Restart a new e m = led g caller old _ reply.Made a new m.0 m.1 (quiet g caller old _ reply.Made refl refl refl refl)
 effect g old caller step.TakeDone a new e m = takes-by g caller (done_ticket old.memory old.desk) old a new e.1 m
 effect g old caller (step.Unlink t) a new e m =
     let k : Ticket = ticket old.desk t in
     led g caller old _ reply.Made a new m.0 m.1
-    (goes g caller old _ reply.Made t _ refl refl (on-to caller k _ (unqueued-of-ended k.stage e.1) refl refl) (λ s below other. refl) refl refl (inl refl))
+    (goes g caller old _ reply.Made t _ refl refl (on-to caller k _ (unqueued-of-ended k.stage e.1) refl refl) (inl refl) (λ s below other. refl) refl refl (inl refl))
 effect g old caller (step.Free t) a new e m =
     let k : Ticket = ticket old.desk t in
     let w : (is_freed k.stage ≡ false) × (is_unqueued k.stage ≡ false) = of-stage k stage.Unlinked e.1 refl refl in
     let ks : new.desk.tickets ≡ slice_set old.desk.tickets t (record k { stage = stage.Freed }) = ap (λ (d : DeskState). d.tickets) m.frees.desk in
-    goes g caller old new a t (record k { stage = stage.Freed }) (ap (λ (x : Reply). built x) m.answer_is) ks (on-to caller k _ w refl refl)
+    goes g caller old new a t (record k { stage = stage.Freed }) (ap (λ (x : Reply). built x) m.answer_is) ks (on-to caller k _ w refl refl) (inr (ap (λ (rs : List Report). list_any (is_report_of t) rs) (ap (λ (x : World). x.reports) m.world) ∙ told-last old.reports (report_at old.desk old.memory t)))
     (λ s below other. ap (λ (d : DeskState). due d s) m.frees.desk) (ap (λ (d : DeskState). d.submitters) m.frees.desk) (ap (λ (x : World). x.lines) m.world)
     (inr (record {
       report = report_at old.desk old.memory t;
@@ -417,5 +441,5 @@ effect g old caller step.ResetBus a new e m = led g caller old _ reply.Started a
 effect g old caller (step.Sense t) a new e m =
     let k : Ticket = ticket old.desk t in
     led g caller old _ reply.Made a new m.0 m.1
-    (goes g caller old _ reply.Made t _ refl refl (on-to caller k _ (of-stage k stage.Check e.2 refl refl) refl refl)
+    (goes g caller old _ reply.Made t _ refl refl (on-to caller k _ (of-stage k stage.Check e.2 refl refl) refl refl) (inl refl)
     (λ s below other. behind caller (reaper old.desk) _ old.desk (omega arith) s below other) refl refl (inl refl))

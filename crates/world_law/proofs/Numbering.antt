@@ -1,6 +1,6 @@
 -- The tickets of a run are numbered as they were accepted, and every report is of one of them, at most once.
-use Rattle.std.proofs.Common.{arith, ◌≡◌, ◌≢◌, ◌<◌, ◌≤◌, ℕ, zero, suc, ◌+◌, Bool, true, false, List, [], ◌∷◌, ◌++◌, length, slice_index_or, Option, Some, None, refl, sym, ap, subst, ◌∙◌, ◌⊎◌, inl, inr}
-use Rattle.std.specs.List.{All, AllPairs, range_with_len, cons_option}
+use Rattle.std.proofs.Common.{arith, ◌≡◌, ◌≢◌, ◌<◌, ◌≤◌, ℕ, zero, suc, ◌+◌, ◌==◌, ◌||◌, not, Bool, true, false, List, [], ◌∷◌, ◌++◌, length, slice_index_or, Option, Some, None, refl, sym, ap, subst, ◌∙◌, ◌⊎◌, inl, inr}
+use Rattle.std.specs.List.{All, AllPairs, list_any, range_with_len, cons_option}
 use Rattle.std.proofs.lemmas.List.Elements.{All-append}
 use Rattle.std.proofs.lemmas.List.Quantifiers.{all_pairs_push}
 use Rattle.rig_types.specs.declared.report.Report.{Report}
@@ -10,9 +10,11 @@ use Rattle.world_law.specs.declared.reply.Reply.{Reply}
 use Rattle.world_law.specs.World.{Setting, World}
 use Rattle.world_law.specs.Opening.{opened}
 use Rattle.world_law.specs.Runs.{Moment, IsRun, last, built, accepted}
-use Rattle.world_law.specs.Laws.{NumbersTickets}
-use Rattle.world_law.proofs.Effects.{Counted, OneReport, Effect, not-freed-within, effect}
-use Rattle.world_law.proofs.Tickets.{freed_stays, grown}
+use Rattle.world_law.specs.Laws.{is_report_of, NumbersTickets}
+use Rattle.world_law.specs.Lines.{drained}
+use Rattle.world_law.proofs.Effects.{IsTold, Counted, OneReport, Effect, not-freed-within, effect}
+use Rattle.world_law.proofs.Drained.{drained-freed}
+use Rattle.world_law.proofs.Tickets.{freed_stays, was_freed, grown}
 
 -- ---- reports
 
@@ -25,11 +27,12 @@ AreOfTwo a b = a.ticket ≢ b.ticket
 record Reported (w : World) : Type 0 where
   pub each : All (IsOfFreed w) w.reports
   pub once : AllPairs AreOfTwo w.reports
+  pub all : (t : ℕ) → t < length w.desk.tickets → is_freed (ticket w.desk t).stage ≡ true → IsTold w.reports t
 
 still-freed : (g : Setting) (caller : ℕ) (old : World) (a : Reply) (new : World) → Effect g caller old a new → (r : Report) → IsOfFreed old r → IsOfFreed new r
 still-freed g caller old a new x r h = (
   omega (arith, h.0, grown old.desk.tickets new.desk.tickets (built a) x.counted),
-  freed_stays caller old.desk.tickets new.desk.tickets x.tickets r.ticket h.0 h.1,
+  freed_stays caller old.desk.tickets new.desk.tickets new.reports x.tickets r.ticket h.0 h.1,
 )
 
 one : (P : Report → Type 0) (r : Report) → P r → All P (r ∷ [])
@@ -38,6 +41,28 @@ one P r h = λ k d l. at-one k d l
     at-one : (k : ℕ) (d : Report) → k < length (r ∷ []) → P (slice_index_or (r ∷ []) k d)
     at-one zero d l = h
     at-one (suc k) d l = absurd (omega (arith, l))
+
+-- who was told of is told of
+told-on : (rs qs : List Report) (t : ℕ) → IsTold rs t → IsTold (rs ++ qs) t
+told-on [] qs t h = absurd cc
+told-on (r ∷ rs) qs t h = either-told (r.ticket == t) (list_any (is_report_of t) rs) (list_any (is_report_of t) (rs ++ qs)) h (told-on rs qs t)
+  where
+    either-told : (a b c : Bool) → a || b ≡ true → (b ≡ true → c ≡ true) → a || c ≡ true
+    either-told true b c h k = refl
+    either-told false b c h k = k h
+
+told-still : (g : Setting) (caller : ℕ) (old : World) (a : Reply) (new : World) → Effect g caller old a new → (t : ℕ) → IsTold old.reports t → IsTold new.reports t
+told-still g caller old a new x t h = elim x.reports [
+  | inl e ↦ subst (λ (rs : List Report). IsTold rs t) (sym e) h
+  | inr r ↦ subst (λ (rs : List Report). IsTold rs t) (sym r.are) (told-on old.reports (r.report ∷ []) t h)
+]
+
+all-told : (g : Setting) (caller : ℕ) (old : World) (a : Reply) (new : World) → Effect g caller old a new → Reported old → (t : ℕ) → t < length new.desk.tickets → is_freed (ticket new.desk t).stage ≡ true
+    → IsTold new.reports t
+all-told g caller old a new x h t l f = elim (was_freed caller old.desk.tickets new.desk.tickets new.reports x.tickets t l f) [
+  | inl was ↦ told-still g caller old a new x t (h.all t was.0 was.1)
+  | inr told ↦ told
+]
 
 two-stages : (w : World) (a b : Report) → is_freed (ticket w.desk a.ticket).stage ≡ true → is_freed (ticket w.desk b.ticket).stage ≡ false → AreOfTwo a b
 two-stages w a b f l e =
@@ -51,12 +76,14 @@ reported-more g caller old a new x h r = record {
       (omega (arith, not-freed-within old.desk.tickets r.report.ticket r.live, grown old.desk.tickets new.desk.tickets (built a) x.counted), r.freed)));
   once = subst (λ (rs : List Report). AllPairs AreOfTwo rs) (sym r.are)
       (all_pairs_push AreOfTwo old.reports r.report h.once (λ k d l. two-stages old (slice_index_or old.reports k d) r.report (h.each k d l).1 r.live));
+  all = all-told g caller old a new x h;
 }
 
 reported-same : (g : Setting) (caller : ℕ) (old : World) (a : Reply) (new : World) → Effect g caller old a new → Reported old → new.reports ≡ old.reports → Reported new
 reported-same g caller old a new x h e = record {
   each = subst (λ (rs : List Report). All (IsOfFreed new) rs) (sym e) (λ k d l. still-freed g caller old a new x (slice_index_or old.reports k d) (h.each k d l));
   once = subst (λ (rs : List Report). AllPairs AreOfTwo rs) (sym e) h.once;
+  all = all-told g caller old a new x h;
 }
 
 reported : (g : Setting) (caller : ℕ) (old : World) (a : Reply) (new : World) → Effect g caller old a new → Reported old → Reported new
@@ -104,10 +131,14 @@ numbers g w (m ∷ ms) h r =
     one-more w m ms x.counted (numbers g m.after ms (reported g m.entry.caller w m.reply m.after x h) r.1)
 
 none-yet : (g : Setting) → Reported (opened g)
-none-yet g = record { each = λ k d l. absurd (omega (arith, l)); once = λ i j d l m. absurd (omega (arith, m)) }
+none-yet g = record { each = λ k d l. absurd (omega (arith, l)); once = λ i j d l m. absurd (omega (arith, m)); all = λ t l f. absurd (omega (arith, l)) }
 
 zero-plus : (n : ℕ) → 0 + n ≡ n
 zero-plus n = omega arith
+
+was-freed : (b : Bool) → not b ≡ false → b ≡ true
+was-freed true h = refl
+was-freed false h = absurd cc
 
 pub numbers_tickets : (g : Setting) (ms : List Moment) → IsRun g (opened g) ms → NumbersTickets (opened g) ms
 numbers_tickets g ms r =
@@ -116,4 +147,10 @@ numbers_tickets g ms r =
       numbered = x.are ∙ ap (λ (k : ℕ). range_with_len 0 k) (sym (x.many ∙ zero-plus x.n));
       reported = λ k d l. (x.reports.each k d l).0;
       once = x.reports.once;
+      all = λ t l f. x.reports.all t l (was-freed (is_freed (ticket (last (opened g) ms).desk t).stage) f);
     }
+
+pub reports_all : (g : Setting) (ms : List Moment) (t : ℕ) → IsRun g (opened g) ms → drained g (last (opened g) ms) ≡ true → t < length (last (opened g) ms).desk.tickets → IsTold (last (opened g) ms).reports t
+reports_all g ms t r d l =
+    let x : NumbersTickets (opened g) ms = numbers_tickets g ms r in
+    x.all t l (ap not (drained-freed g (last (opened g) ms) d t))

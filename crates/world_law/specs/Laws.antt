@@ -1,12 +1,12 @@
 -- Laws of the world and of runs.
-use Rattle.std.specs.Prelude.{◌≡◌, ◌≢◌, ◌<◌, ℕ, true, List, [], ◌∷◌, ◌++◌, length, slice_set}
-use Rattle.std.specs.List.{range_with_len, All, AllPairs}
+use Rattle.std.specs.Prelude.{◌≡◌, ◌≢◌, ◌<◌, ℕ, ◌==◌, Bool, true, false, List, [], ◌∷◌, ◌++◌, length, slice_set}
+use Rattle.std.specs.List.{range_with_len, list_any, All, AllPairs}
 use Rattle.rig_types.specs.declared.step.Step.{Step}
 use Rattle.rig_types.specs.declared.step.Entry.{Entry}
 use Rattle.rig_types.specs.declared.report.Report.{Report}
 use Rattle.rig_types.specs.declared.commands.Command.{Command}
 use Rattle.desk_law.specs.declared.ticket.Ticket.{Ticket}
-use Rattle.desk_law.specs.Desk.{ticket, due}
+use Rattle.desk_law.specs.Desk.{ticket, lives, due}
 use Rattle.world_law.specs.declared.reply.Reply.{Reply}
 use Rattle.world_law.specs.World.{Setting, World, commands_of, lines_of}
 use Rattle.world_law.specs.Opening.{opened}
@@ -37,14 +37,24 @@ RunsOnce = (g : Setting) (w : World) (ms ns : List Moment) → entries ms ≡ en
 abbrev pub TracesOne : Type 0
 TracesOne = (g : Setting) (es fs : List Entry) → IsLawful g es → IsLawful g fs → trace es ≡ trace fs → es ≡ fs
 
--- the tickets of a run are numbered as they were accepted, every report is of one of them, and two reports are of two
+-- the tickets of a run are numbered as they were accepted, every report is of one of them, two reports are of two, and every ticket that is
+-- freed has one
+abbrev pub is_report_of : ℕ → Report → Bool
+is_report_of t r = r.ticket == t
+
 pub record NumbersTickets (w : World) (ms : List Moment) : Type 0 where
   pub numbered : accepted ms ≡ range_with_len 0 (length (last w ms).desk.tickets)
   pub reported : All (λ (r : Report). r.ticket < length (last w ms).desk.tickets) (last w ms).reports
   pub once : AllPairs (λ (a : Report) (b : Report). a.ticket ≢ b.ticket) (last w ms).reports
+  pub all : (t : ℕ) → t < length (last w ms).desk.tickets → lives (ticket (last w ms).desk t) ≡ false → list_any (is_report_of t) (last w ms).reports ≡ true
 
 abbrev pub ReportsAccepted : Type 0
 ReportsAccepted = (g : Setting) (ms : List Moment) → IsRun g (opened g) ms → NumbersTickets (opened g) ms
+
+-- so where the world is drained, every accepted ticket has a report
+abbrev pub ReportsAll : Type 0
+ReportsAll = (g : Setting) (ms : List Moment) (t : ℕ) → IsRun g (opened g) ms → drained g (last (opened g) ms) ≡ true
+    → t < length (last (opened g) ms).desk.tickets → list_any (is_report_of t) (last (opened g) ms).reports ≡ true
 
 -- a step of another caller leaves what a submitter has still to do: its next line, its due signals, and its tickets that are Built or Linked
 abbrev pub IsHeldBy : (s : ℕ) → Ticket → Type 0

@@ -1,6 +1,6 @@
 //! Laws of the world. Each function does nothing; its contract is the law.
 
-ghost use Rattle.world_law.specs.Laws.{GoesOn, RestsDrained, DoesOnce, RunsOnce, TracesOne, ReportsAccepted, OthersLeave, Extends};
+ghost use Rattle.world_law.specs.Laws.{GoesOn, RestsDrained, DoesOnce, RunsOnce, TracesOne, ReportsAccepted, ReportsAll, OthersLeave, Extends};
 
 /// A run one moment longer is the run, and then this moment.
 pub fn one_moment_longer()
@@ -20,9 +20,11 @@ pub fn one_run()
     ensures trace { TracesOne }
 {}
 
-/// The tickets of a run are numbered as they were accepted, and every report is of one of them, at most once.
+/// The tickets of a run are numbered as they were accepted; every report is of one of them, at most once; every ticket
+/// that is freed has one, and so has every ticket where the world is drained.
 pub fn reports_accepted()
-    ensures { ReportsAccepted }
+    ensures accepted { ReportsAccepted }
+    ensures all { ReportsAll }
 {}
 
 /// A step of another caller leaves a submitter's next line, its due signals and its tickets that are Built or Linked.
