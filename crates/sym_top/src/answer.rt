@@ -22,11 +22,11 @@ use sym_io::{Shelf, Sink};
 /// line of a refusal to `err`. It always returns.
 ///
 /// `Usage` comes exactly where the words are no command with its count of words, or a number is out of range; then
-/// nothing is touched but `err`. Of the others `ReadFault` comes only where the shelf's count of loads rose,
-/// `WriteFault` only where its count of stores did and the command stores a file, or where that of `out` did, and each
-/// shows a count that rose. `BadSource` comes exactly where the assembler refuses the source, and `TooLong` exactly
-/// where the file is longer than 4,194,304 bytes. Where the shelf tells the file, it is valid and no count rose, the
-/// answer is `Ok` or want of memory. `one` touches no file.
+/// nothing is touched but `err`. Of the others `ReadFault` comes only where the shelf's count of loads rose, and
+/// `WriteFault` only where its count of stores did and the command stores a file, or where that of `out` did; where one
+/// of these counts rose, its fault is the answer. `BadSource` comes exactly where the assembler refuses the source, and
+/// `TooLong` exactly where the file is longer than 4,194,304 bytes. Where the shelf tells the file, it is valid and no
+/// count rose, the answer is `Ok` or want of memory. `one` touches no file.
 ///
 /// After `WriteFault` a prefix of the text is on `out`; with every other status but `Ok` nothing is, and the shelf's
 /// files are as before. A failing `err` changes nothing.

@@ -95,40 +95,36 @@ fn check(rt: &impl Abort, alloc: Global, row: &Row<'_>) -> Result<(), AllocError
 }
 
 #[test]
-fn files_are_read_and_stored_or_refused(rt: HostRuntime) -> Result<(), Fail> {
+fn files_are_read_and_stored(rt: HostRuntime) -> Result<(), Fail> {
     let alloc = rt.alloc();
-    let long = vec![in alloc; b' '; 4_194_305]?;
-    let most = &long.as_slice()[1..];
-    let deaf = Sinking {
-        most: 1,
-        failing: Some(1),
-    };
+    let most = vec![in alloc; b' '; 4_194_304]?;
     let rows = [
-        // what is stored and printed
         Row {
             stored: Some(IMAGE),
             ..good(ASM, SOURCE, PRINTED)
         },
         Row {
             stored: Some(b""),
-            ..good(ASM, most, b"words 0\n")
+            ..good(ASM, most.as_slice(), b"words 0\n")
         },
         good(LIST, &[0x40, 0, 0, 0x60, 7], LISTED),
-        // a source with a fault, also where standard error fails
+    ];
+    for row in &rows {
+        check(&rt, alloc, row)?;
+    }
+    Ok(())
+}
+
+#[test]
+fn files_are_refused(rt: HostRuntime) -> Result<(), Fail> {
+    let alloc = rt.alloc();
+    let long = vec![in alloc; b' '; 4_194_305]?;
+    let missing: &[&str] = &["asm", "c", "b"];
+    let rows = [
         refused(ASM, TWICE, &[], Exit::BadSource, TWICE_SAID),
-        Row {
-            err: deaf,
-            ..refused(ASM, TWICE, &[], Exit::BadSource, b"")
-        },
         // a load fails, or its file is missing; the store fails
         refused(LIST, IMAGE, &[1], Exit::ReadFault, b"read fault\n"),
-        refused(
-            &["asm", "c", "b"],
-            SOURCE,
-            &[],
-            Exit::ReadFault,
-            b"read fault\n",
-        ),
+        refused(missing, SOURCE, &[], Exit::ReadFault, b"read fault\n"),
         refused(ASM, SOURCE, &[2], Exit::WriteFault, b"write fault\n"),
         // a file beyond the limit
         refused(LIST, long.as_slice(), &[], Exit::TooLong, b"too long\n"),
@@ -136,7 +132,20 @@ fn files_are_read_and_stored_or_refused(rt: HostRuntime) -> Result<(), Fail> {
     for row in &rows {
         check(&rt, alloc, row)?;
     }
-    writes_of_one_byte(&rt, alloc)?;
+    Ok(())
+}
+
+#[test]
+fn a_failing_standard_error_changes_nothing(rt: HostRuntime) -> Result<(), Fail> {
+    let deaf = Sinking {
+        most: 1,
+        failing: Some(1),
+    };
+    let row = Row {
+        err: deaf,
+        ..refused(ASM, TWICE, &[], Exit::BadSource, b"")
+    };
+    check(&rt, rt.alloc(), &row)?;
     Ok(())
 }
 
@@ -153,19 +162,9 @@ fn a_source_of_too_many_instructions(rt: HostRuntime) -> Result<(), Fail> {
     Ok(())
 }
 
-/// An output that takes one byte a write gets the whole text; where its k-th write fails it has the text before that,
-/// and the image is stored.
-fn writes_of_one_byte(rt: &impl Abort, alloc: Global) -> Result<(), AllocError> {
-    let slow = Sinking {
-        most: 1,
-        failing: None,
-    };
-    let row = Row {
-        out: slow,
-        stored: Some(IMAGE),
-        ..good(ASM, SOURCE, PRINTED)
-    };
-    check(rt, alloc, &row)?;
+/// An output whose k-th write of one byte fails has the text before that, and the image is stored.
+#[test]
+fn the_image_is_stored_before_the_text(rt: HostRuntime) -> Result<(), Fail> {
     for count in 0..8usize {
         let failing = Sinking {
             most: 1,
@@ -177,7 +176,7 @@ fn writes_of_one_byte(rt: &impl Abort, alloc: Global) -> Result<(), AllocError> 
             stored: Some(IMAGE),
             ..refused(ASM, SOURCE, &[], Exit::WriteFault, b"write fault\n")
         };
-        check(rt, alloc, &row)?;
+        check(&rt, rt.alloc(), &row)?;
     }
     Ok(())
 }
