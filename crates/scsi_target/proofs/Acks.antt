@@ -16,7 +16,7 @@ use Rattle.target_law.specs.Calls.{shown_acked, noted_by, acked_by, target_acked
 use Rattle.target_session.specs.Sessions.{session_of, heard_on, closed_on}
 use Rattle.unit_core.specs.declared.Core.{Core}
 use Rattle.unit_tasks.specs.declared.queued.QueuedUnit.{QueuedUnit}
-use Rattle.scsi_target.specs.Devices.{where_room}
+use Rattle.target_law.specs.Devices.{where_room}
 use Rattle.scsi_target.specs.Slots.{slot_of, room_of}
 use Rattle.scsi_target.specs.Views.{link_of, device_of, IsDevice, HoldsOn}
 use Rattle.scsi_target.specs.declared.link.Link.{Link as HeldLink}
@@ -25,7 +25,8 @@ use Rattle.scsi_target.specs.declared.parting.Parting.{Parting}
 use Rattle.scsi_target.specs.declared.parting.Parting.TheVariants.{Left, Dropped, Ended}
 use Rattle.scsi_target.specs.Partings.{May, parting_of, parting_note, target_by}
 use Rattle.scsi_target.proofs.Devices.{device_relinked}
-use Rattle.scsi_target.proofs.Parted.{device_lies, where_true}
+use Rattle.target_law.proofs.Rooms.{where_true}
+use Rattle.scsi_target.proofs.Parted.{device_lies}
 
 -- the same device with a link that holds on
 pub device_on : (count : ℕ) (slots : List (Option QueuedUnit)) (old new : HeldLink) (breaks : Bool) → IsDevice count slots old breaks → HoldsOn old new → IsDevice count slots new breaks

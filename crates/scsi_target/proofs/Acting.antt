@@ -18,14 +18,14 @@ use Rattle.target_law.specs.Target.{Link, Working, Straying, with_unit, session,
 use Rattle.target_law.specs.Calls.{link_or_free, target_acted}
 use Rattle.unit_tasks.specs.declared.queued.QueuedUnit.{QueuedUnit}
 use Rattle.unit_tasks.specs.Units.{unit_of}
-use Rattle.scsi_target.specs.Devices.{DeviceState, where_room, lie_within}
+use Rattle.target_law.specs.Devices.{DeviceState, where_room, lie_within}
 use Rattle.scsi_target.specs.Slots.{slot_of, room_of}
 use Rattle.scsi_target.specs.Moves.{has_room, core_moved, unit_moved, connection_moved}
 use Rattle.scsi_target.specs.Views.{link_of, device_of, busy, IsSlot, IsConnected, IsLinked, IsDevice}
 use Rattle.scsi_target.specs.declared.link.Link.{Link as HeldLink}
 use Rattle.scsi_target.specs.declared.link.Link.TheVariants as held
 use Rattle.scsi_target.proofs.Places.{within, unit_there, units_with, units_stay, rooms_stay, room_there, place_set}
-use Rattle.scsi_target.proofs.Rooms.{lie_within-set, and-of}
+use Rattle.target_law.proofs.Rooms.{lie_within-set, and-of}
 use Rattle.scsi_target.proofs.Devices.{device_set, device_relinked}
 
 -- each log lies within its room

@@ -1,13 +1,18 @@
 -- What a device is after the beginning of a task.
-use Rattle.std.proofs.Common.{◌≡◌, ℕ, Bool, true, false, List, refl, ap, sym, ◌∙◌, Option, Some, map, subst, slice_set, if◌then◌else◌}
-use Rattle.std.specs.Prelude.{slice_get}
+use Rattle.std.proofs.Common.{◌≡◌, ℕ, ◌<◌, Bool, true, false, ◌||◌, List, refl, ap, arith, sym, ◌∙◌, Option, Some, None, length, map, subst, slice_set, nat_lt, if◌then◌else◌}
+use Rattle.std.specs.Prelude.{slice_get, IsSome}
+use Rattle.std.proofs.lemmas.Bool.Decides.{nat_tests}
 use Rattle.cdb_codec.specs.declared.commands.Cdb.{Cdb}
 use Rattle.target_law.specs.declared.nexus.Nexus.{Nexus}
-use Rattle.target_law.specs.Target.{LogicalUnit, Link, Free, Target, linked}
-use Rattle.target_law.specs.Calls.{begun, begun_with, begun_by, target_begun}
+use Rattle.target_law.specs.Beginning.{has_place, where_placed, ticket_for, begins_if, begins}
+use Rattle.target_law.specs.Lawful.{IsThere}
+use Rattle.target_law.specs.Bytes.{Connection}
+use Rattle.target_law.specs.Target.{LogicalUnit, Link, Free, Greeted, Commanded, Working, Straying, Target, linked}
+use Rattle.target_law.specs.Calls.{has_tag, nexus_of, whole_by, begun, begun_with, begun_by, target_begun}
 use Rattle.unit_tasks.specs.Units.{unit_of}
 use Rattle.unit_tasks.specs.declared.queued.QueuedUnit.{QueuedUnit}
-use Rattle.scsi_target.specs.Beginnings.{makes_none, link_begun}
+use Rattle.scsi_target.specs.Beginnings.{makes_none, link_begun, HasPlaceFor}
+use Rattle.scsi_target.specs.Devices.{place_for}
 use Rattle.scsi_target.specs.Slots.{room_of}
 use Rattle.scsi_target.specs.Views.{link_of, device_of, IsSlot, IsDevice}
 use Rattle.scsi_target.specs.declared.link.Block.{Block}
@@ -54,3 +59,34 @@ pub begun_from : (slots news : List (Option QueuedUnit)) (link to : HeldLink) (n
 begun_from slots news link to n block ticket e h =
     subst (λ (l : HeldLink). device_of news to ≡ record { target = target_begun (device_of slots l).target ticket; rooms = map room_of slots }) (sym e)
     (h ∙ ap (λ (x : Target). record { target = x; rooms = map room_of slots }) (sym (begun_is (device_of slots (held.Commanded n block)).target ticket)))
+
+-- a unit that has a place
+second : (a b : Bool) → (a || b) ≡ true → a ≡ false → b ≡ true
+second true b e h = cc
+second false b e h = e
+
+pub place-of : (o : Option LogicalUnit) (n : Nexus) → has_place o n.tag ≡ true → IsThere o (HasPlaceFor n)
+place-of (Some u) n e = λ none. let l : nat_lt (length u.tasks) u.rig.depth ≡ true = second (has_tag u.tasks n.tag) _ e none in grind (arith, nat_tests)
+place-of None n e = cc
+
+-- the ticket of a whole command
+abbrev none_given : Option ℕ
+none_given = None
+
+pub place-some : (place : Bool) (ticket placed : Option ℕ) → placed ≡ where_placed place ticket → IsSome placed → place ≡ true
+place-some true ticket placed e h = refl
+place-some false ticket placed e h = let f : IsSome none_given = subst (λ (o : Option ℕ). IsSome o) e h in absurd cc
+
+ticket-by : (t : Target) (l : Link) (ticket : Option ℕ) → whole_by l ≡ true → where_placed (place_for t (nexus_of l)) ticket ≡ ticket_for (λ n. ticket) t (nexus_of l)
+ticket-by t (Commanded n taken) ticket e = refl
+ticket-by t Free ticket e = cc
+ticket-by t (Greeted heard) ticket e = cc
+ticket-by t (Working c) ticket e = cc
+ticket-by t (Straying s n) ticket e = cc
+
+begins-if : (whole : Bool) (t : Target) (ticket : Option ℕ) → whole ≡ true → begins_if (λ n. ticket) whole t ≡ target_begun t (ticket_for (λ n. ticket) t (nexus_of t.link))
+begins-if true t ticket e = refl
+begins-if false t ticket e = cc
+
+pub begins-whole : (t : Target) (ticket placed : Option ℕ) → whole_by t.link ≡ true → placed ≡ where_placed (place_for t (nexus_of t.link)) ticket → target_begun t placed ≡ begins (λ n. ticket) t
+begins-whole t ticket placed e h = ap (target_begun t) (h ∙ ticket-by t t.link ticket e) ∙ sym (begins-if (whole_by t.link) t ticket e)

@@ -1,6 +1,6 @@
-pub mod Rooms
 pub mod Places
 pub mod Devices
+pub mod Views
 pub mod Opening
 pub mod Moving
 pub mod Acting
@@ -12,3 +12,4 @@ pub mod Begins
 pub mod Resets
 pub mod Tells
 pub mod Choices
+pub mod Tagging

@@ -13,7 +13,7 @@ use Rattle.target_law.specs.Calls.{is_free, is_rogue, slot_is_rogue, IsToChoose,
 use Rattle.target_law.specs.Lawful.{May, Named, NamesOf, CanOf, IsThere}
 use Rattle.unit_tasks.specs.declared.queued.QueuedUnit.{QueuedUnit}
 use Rattle.unit_tasks.specs.Units.{unit_of}
-use Rattle.scsi_target.specs.Devices.{DeviceState}
+use Rattle.target_law.specs.Devices.{DeviceState}
 use Rattle.scsi_target.specs.Slots.{slot_of, room_of, At}
 use Rattle.scsi_target.specs.Views.{link_of, device_of, busy, IsConnected, IsLinked, IsDevice}
 use Rattle.scsi_target.specs.declared.link.Link.{Link as HeldLink}

@@ -10,7 +10,8 @@ use Rattle.target_law.specs.Target.{LogicalUnit, adds_unit, unit_opened, with_un
 use Rattle.target_law.specs.Calls.{slot_is_rogue}
 use Rattle.unit_tasks.specs.declared.queued.QueuedUnit.{QueuedUnit}
 use Rattle.unit_tasks.specs.Units.{unit_of}
-use Rattle.scsi_target.specs.Devices.{IsOneTarget, first_is_rogue, device_opened}
+use Rattle.target_law.specs.Devices.{device_opened}
+use Rattle.scsi_target.specs.Devices.{IsOneTarget, first_is_rogue}
 use Rattle.scsi_target.specs.Slots.{slot_of, room_of}
 use Rattle.scsi_target.specs.Views.{IsSlot, IsDevice, device_of}
 use Rattle.scsi_target.specs.declared.link.Link.TheVariants as held

@@ -7,7 +7,7 @@ use Rattle.target_law.specs.Bytes.{Connection}
 use Rattle.target_law.specs.Target.{LogicalUnit, Link, Free, Target, on_unit, unit_at, with_unit}
 use Rattle.unit_tasks.specs.Units.{unit_of}
 use Rattle.unit_tasks.specs.declared.queued.QueuedUnit.{QueuedUnit}
-use Rattle.scsi_target.specs.Devices.{DeviceState, lie_within, where_room}
+use Rattle.target_law.specs.Devices.{DeviceState, lie_within, where_room}
 use Rattle.scsi_target.specs.Slots.{slot_of, room_of, At}
 use Rattle.scsi_target.specs.Views.{busy, link_of, device_of, IsLinked, IsDevice}
 use Rattle.scsi_target.specs.declared.link.Link.{Link as HeldLink}
@@ -15,7 +15,7 @@ use Rattle.scsi_target.specs.declared.link.Link.TheVariants as held
 use Rattle.scsi_target.specs.declared.parting.Parting.{Parting}
 use Rattle.scsi_target.specs.Partings.{IsOnlyHere, IsMade, unit_by, parts_by, target_by}
 use Rattle.scsi_target.proofs.Places.{unit_there, units_with, units_stay, rooms_stay, room_there, within, place_set, is_unit}
-use Rattle.scsi_target.proofs.Rooms.{lie_within-set}
+use Rattle.target_law.proofs.Rooms.{lie_within-set, where_true, where_false}
 use Rattle.scsi_target.proofs.Devices.{device_set}
 
 -- the unit that was read in the place of a connected task
@@ -67,14 +67,6 @@ all_lie (Some x ∷ slots) f = both_true (nat_le (length x.core.log.entries) x.c
 
 pub device_lies : (count : ℕ) (slots : List (Option QueuedUnit)) (link : HeldLink) (breaks : Bool) → IsDevice count slots link breaks → lie_within (map slot_of slots) (map room_of slots) ≡ true
 device_lies count slots link breaks i = all_lie slots (λ k q e. (i.slots_are k q e).log)
-
-pub where_true : (d : DeviceState) (t : Target) → lie_within t.units d.rooms ≡ true → where_room d t ≡ record { target = t; rooms = d.rooms }
-unfolding where_room
-where_true d t e = rw e refl
-
-pub where_false : (d : DeviceState) (t : Target) → lie_within t.units d.rooms ≡ false → where_room d t ≡ d
-unfolding where_room
-where_false d t e = rw e refl
 
 abbrev state : List (Option LogicalUnit) → Link → List ℕ → DeviceState
 state us l rs = record { target = record { units = us; link = l }; rooms = rs }

@@ -1,5 +1,6 @@
 -- The units of a device by their places: what is read of one place, and what one place changes.
-use Rattle.std.proofs.Common.{◌≡◌, ◌≢◌, ℕ, zero, suc, ◌≤◌, ◌<◌, Bool, List, [], ◌∷◌, refl, ap, arith, sym, ◌∙◌, Option, Some, None, length, slice_set, slice_index_or, map, option_map, subst, ◌⊎◌, inl, inr}
+use Rattle.std.specs.List.{list_any}
+use Rattle.std.proofs.Common.{◌≡◌, ◌≢◌, ℕ, zero, suc, ◌≤◌, ◌<◌, Bool, ◌||◌, List, [], ◌∷◌, refl, ap, arith, sym, ◌∙◌, Option, Some, None, length, slice_set, slice_index_or, max, ◌+◌, map, option_map, subst, ◌⊎◌, inl, inr}
 use Rattle.std.specs.Prelude.{slice_get}
 use Rattle.std.proofs.lemmas.List.{map-set}
 use Rattle.std.proofs.lemmas.Option.{slice_get-map, slice_get_within, get_or_from_slice_get, slice_get_read}
@@ -10,8 +11,8 @@ use Rattle.unit_law.proofs.Views.{same_or_not}
 use Rattle.unit_tasks.specs.declared.queued.QueuedUnit.{QueuedUnit}
 use Rattle.unit_tasks.specs.Units.{unit_of}
 use Rattle.unit_tasks.proofs.Drops.{length-unit_reset}
-use Rattle.scsi_target.specs.Devices.{DeviceState, lie_within}
-use Rattle.scsi_target.specs.Views.{device_of, IsDevice}
+use Rattle.target_law.specs.Devices.{DeviceState, lie_within, reserved_for, device_reserved}
+use Rattle.scsi_target.specs.Views.{link_of, device_of, IsDevice}
 use Rattle.scsi_target.specs.declared.link.Link.{Link as HeldLink}
 use Rattle.scsi_target.specs.Slots.{slot_of, room_of, At, slot_after, all_can_reset}
 
@@ -121,31 +122,16 @@ pub read_unit : (d : DeviceState) (slots : List (Option QueuedUnit)) (link : Hel
     → IsThere (unit_at d.target.units lun) P → o ≡ slice_index_or slots lun o → o ≡ Some r → slice_get slots lun ≡ Some (Some r)
 read_unit d slots link v lun P r o h e i = let t = there_in d slots link v lun P h in t.1 ∙ ap (λ (q : QueuedUnit). Some (Some q)) (is_unit slots lun t.0 r o t.1 e i)
 
--- the room of a LUN by what stands in its place
-abbrev pub room_in : Option (Option QueuedUnit) → ℕ
-room_in (Some o) = room_of o
-room_in None = 0
-
-pub room_by : (slots : List (Option QueuedUnit)) (k : ℕ) → slice_index_or (map room_of slots) k 0 ≡ room_in (slice_get slots k)
-room_by [] k = refl
-room_by (o ∷ os) zero = refl
-room_by (o ∷ os) (suc k) = room_by os k
-
--- the rooms after one unit has changed
-pub room_set : (slots : List (Option QueuedUnit)) (lun : ℕ) (q : QueuedUnit) → lun < length slots → slice_index_or (map room_of (slice_set slots lun (Some q))) lun 0 ≡ q.core.log.room
-room_set slots lun q l = room_by (slice_set slots lun (Some q)) lun ∙ ap room_in (place_set slots lun q l)
-
-pub room_other : (slots : List (Option QueuedUnit)) (lun k : ℕ) (q : QueuedUnit) → k ≢ lun → slice_index_or (map room_of (slice_set slots lun (Some q))) k 0 ≡ slice_index_or (map room_of slots) k 0
-room_other slots lun k q d = room_by (slice_set slots lun (Some q)) k ∙ ap room_in (place_other slots lun k (Some q) d) ∙ sym (room_by slots k)
-
-room_more_by : (slots : List (Option QueuedUnit)) (lun k : ℕ) (old new : QueuedUnit) → slice_get slots lun ≡ Some (Some old) → old.core.log.room ≤ new.core.log.room → (k ≡ lun) ⊎ (k ≢ lun)
-    → slice_index_or (map room_of slots) k 0 ≤ slice_index_or (map room_of (slice_set slots lun (Some new))) k 0
-room_more_by slots lun k old new e r (inl same) = rw same rw (room_set slots lun new (within slots lun old e)) rw (room_there slots lun old e) r
-room_more_by slots lun k old new e r (inr other) = rw (room_other slots lun k new other) omega arith
-
-pub room_more : (slots : List (Option QueuedUnit)) (lun k : ℕ) (old new : QueuedUnit) → slice_get slots lun ≡ Some (Some old) → old.core.log.room ≤ new.core.log.room
-    → slice_index_or (map room_of slots) k 0 ≤ slice_index_or (map room_of (slice_set slots lun (Some new))) k 0
-room_more slots lun k old new e r = room_more_by slots lun k old new e r (same_or_not k lun)
+-- the device once room was made in a unit's log
+pub reserved_is : (slots : List (Option QueuedUnit)) (link : HeldLink) (lun n : ℕ) (old new : QueuedUnit) → slice_get slots lun ≡ Some (Some old) → unit_of new ≡ unit_of old
+    → new.core.log.room ≡ max old.core.log.room (length old.core.log.entries + n) → device_of (slice_set slots lun (Some new)) link ≡ device_reserved (device_of slots link) lun n
+unfolding device_reserved
+reserved_is slots link lun n old new e u r =
+    let rooms : map room_of (slice_set slots lun (Some new)) ≡ slice_set (map room_of slots) lun (max (slice_index_or (map room_of slots) lun 0) (length old.core.log.entries + n)) =
+    map-set room_of slots lun (Some new) ∙ ap (λ (room : ℕ). slice_set (map room_of slots) lun room) (r ∙ ap (λ (room : ℕ). max room (length old.core.log.entries + n)) (sym (room_there slots lun old e))) in
+    ap (λ (us : List (Option LogicalUnit)). record { target = record { units = us; link = link_of link }; rooms = map room_of (slice_set slots lun (Some new)) }) (units_stay slots lun old new e u)
+    ∙ ap (λ (rs : List ℕ). record { target = record { units = map slot_of slots; link = link_of link }; rooms = rs }) rooms
+    ∙ sym (ap (λ (o : Option LogicalUnit). reserved_for (device_of slots link) lun n o) (unit_there slots lun old e))
 
 -- a place that was read, of a LUN in range
 pub place_read : (slots : List (Option QueuedUnit)) (lun : ℕ) (o p : Option QueuedUnit) → length slots ≡ 8 → lun < 8 → o ≡ slice_index_or slots lun o → o ≡ p → slice_get slots lun ≡ Some p
@@ -153,3 +139,13 @@ place_read slots lun o p n l e i = subst (λ x. slice_get slots lun ≡ Some x) 
 
 pub not_there : (d : DeviceState) (slots : List (Option QueuedUnit)) (link : HeldLink) → device_of slots link ≡ d → (lun : ℕ) (P : LogicalUnit → Type 0) → slice_get slots lun ≡ Some None → IsThere (unit_at d.target.units lun) P → ⊥
 not_there d slots link v lun P e h = let t = there_in d slots link v lun P h in let f : Some None ≡ Some (Some t.0) = sym e ∙ t.1 in cc
+
+-- the unit of a LUN by the place that was read
+pub unit_read : (d : DeviceState) (slots : List (Option QueuedUnit)) (link : HeldLink) → device_of slots link ≡ d → (lun : ℕ) (o : Option QueuedUnit) → length slots ≡ 8 → lun < 8
+    → o ≡ slice_index_or slots lun o → unit_at d.target.units lun ≡ slot_of o
+unit_read d slots link v lun o n l e = subst (λ (x : DeviceState). unit_at x.target.units lun ≡ slot_of o) v (unit_is slots lun (Some o) (place_read slots lun o o n l e refl))
+
+-- whether some unit passes a test, by the places
+pub any-places : (test : Option LogicalUnit → Bool) (slots : List (Option QueuedUnit)) → list_any (λ o. test (slot_of o)) slots ≡ list_any test (map slot_of slots)
+any-places test [] = refl
+any-places test (o ∷ slots) = ap (λ b. test (slot_of o) || b) (any-places test slots)

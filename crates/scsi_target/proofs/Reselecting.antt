@@ -19,7 +19,7 @@ use Rattle.target_session.specs.Sessions.{session_of}
 use Rattle.unit_tasks.specs.declared.queued.QueuedUnit.{QueuedUnit}
 use Rattle.unit_tasks.specs.Queue.{Queue, AllWait}
 use Rattle.unit_tasks.specs.Units.{unit_of}
-use Rattle.scsi_target.specs.Devices.{DeviceState}
+use Rattle.target_law.specs.Devices.{DeviceState}
 use Rattle.scsi_target.specs.Slots.{slot_of, room_of}
 use Rattle.scsi_target.specs.Views.{link_of, device_of, busy, IsSlot, IsDevice}
 use Rattle.scsi_target.specs.declared.link.Link.{Link as HeldLink}

@@ -13,9 +13,9 @@ use Rattle.unit_tasks.specs.Units.{unit_of}
 use Rattle.unit_tasks.specs.Queue.{AllWait}
 use Rattle.unit_tasks.specs.Resets.{can_reset, reset_by, reset_entries, drop_entries}
 use Rattle.unit_tasks.specs.declared.queued.QueuedUnit.{QueuedUnit}
-use Rattle.unit_tasks.proofs.Drops.{drop_entries-by_tag, length-unit_reset, rig-drops}
+use Rattle.unit_tasks.proofs.Drops.{drop_entries-by_tag, length-unit_reset}
 use Rattle.rig_types.specs.Ranges.{IsUnit}
-use Rattle.scsi_target.specs.Devices.{DeviceState, lie_within, where_room}
+use Rattle.target_law.specs.Devices.{DeviceState, lie_within, where_room}
 use Rattle.scsi_target.specs.Slots.{slot_of, room_of, slot_after, slot_can_reset, all_can_reset}
 use Rattle.scsi_target.specs.Views.{busy, link_of, device_of, IsSlot, IsDevice}
 use Rattle.scsi_target.specs.Partings.{target_by}
@@ -24,7 +24,9 @@ use Rattle.scsi_target.specs.declared.link.Link.{Link as HeldLink}
 use Rattle.scsi_target.specs.declared.link.Link.TheVariants as held
 use Rattle.scsi_target.specs.declared.parting.Parting.TheVariants.{Left}
 use Rattle.scsi_target.proofs.Places.{units_with, rooms_stay, room_for_reset, units_reset, rooms_reset}
-use Rattle.scsi_target.proofs.Parted.{device_lies, lie_by, on_there, state_same, where_true, where_false}
+use Rattle.target_law.proofs.Rigs.{rig-unit_reset}
+use Rattle.target_law.proofs.Rooms.{where_true, where_false}
+use Rattle.scsi_target.proofs.Parted.{device_lies, lie_by, on_there, state_same}
 
 -- a unit's log has room with one more task
 with_true : (n d e room : ℕ) → e ≡ d + 0 → nat_le (n + (d + 1)) room ≡ nat_le (n + (e + 1)) room
@@ -93,10 +95,6 @@ all_at (Some x ∷ slots) zero q a e = let same : x ≡ q = cc in ap can_reset (
 all_at (x ∷ slots) (suc k) q a e = all_at slots k q (both (slot_can_reset x) (all_can_reset slots) a).1 e
 
 -- a unit after its reset
-rig_reset : (u : LogicalUnit) → (unit_reset u).rig ≡ u.rig
-unfolding unit_reset
-rig_reset u = rig-drops u.tasks u
-
 tasks_reset : (u : LogicalUnit) → (unit_reset u).tasks ≡ []
 unfolding unit_reset
 tasks_reset u = refl
@@ -106,10 +104,10 @@ none_wait q ks e = λ k d l. let n = ap length e in absurd (omega arith)
 
 slot_after_reset : (breaks : Bool) (link : HeldLink) (place : ℕ) (q : QueuedUnit) → IsSlot breaks link place q → busy link place ≡ 0 → can_reset q ≡ true → IsSlot breaks held.Free place (reset_by true q)
 slot_after_reset breaks link place q s b r = record {
-  lun = ap (λ x. x.lun) (rig_reset (unit_of q)) ∙ s.lun;
-  unit = subst (λ x. (version : ℕ) × IsUnit version x) (sym (rig_reset (unit_of q))) s.unit;
-  rogue = ap (λ x. x.rogue) (rig_reset (unit_of q)) ∙ s.rogue;
-  depth = s.depth ∙ sym (ap (λ x. x.depth) (rig_reset (unit_of q)));
+  lun = ap (λ x. x.lun) (rig-unit_reset (unit_of q)) ∙ s.lun;
+  unit = subst (λ x. (version : ℕ) × IsUnit version x) (sym (rig-unit_reset (unit_of q))) s.unit;
+  rogue = ap (λ x. x.rogue) (rig-unit_reset (unit_of q)) ∙ s.rogue;
+  depth = s.depth ∙ sym (ap (λ x. x.depth) (rig-unit_reset (unit_of q)));
   places = let n = ap length (tasks_reset (unit_of q)) in let p = s.places in omega arith;
   waiting = none_wait (reset_by true q) (unit_reset (unit_of q)).tasks (tasks_reset (unit_of q));
   log = let n = length-unit_reset (unit_of q) in let l = le_of (length q.core.log.entries + reset_entries q.tasks.tasks) q.core.log.room r in omega arith;
@@ -127,7 +125,7 @@ slot_by slots breaks link place q None e h s b a = cc
 rogue_reset : (slots : List (Option QueuedUnit)) → list_any slot_is_rogue (map slot_of (map slot_after slots)) ≡ list_any slot_is_rogue (map slot_of slots)
 rogue_reset [] = refl
 rogue_reset (None ∷ qs) = rogue_reset qs
-rogue_reset (Some q ∷ qs) = rw (ap (λ x. x.rogue) (rig_reset (unit_of q))) rw (rogue_reset qs) refl
+rogue_reset (Some q ∷ qs) = rw (ap (λ x. x.rogue) (rig-unit_reset (unit_of q))) rw (rogue_reset qs) refl
 
 -- the device after a reset
 pub device_reset : (count : ℕ) (slots : List (Option QueuedUnit)) (link : HeldLink) (breaks : Bool) → IsDevice count slots link breaks → ((k : ℕ) → busy link k ≡ 0) → all_can_reset slots ≡ true

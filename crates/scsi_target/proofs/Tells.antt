@@ -11,7 +11,7 @@ use Rattle.target_law.specs.Bytes.{Connection}
 use Rattle.target_law.specs.Target.{LogicalUnit, Link, Free, Greeted, Commanded, Working, Straying, Target, at_lun, on_unit, unit_at, flat, linked, target_reset}
 use Rattle.target_law.specs.Calls.{Heard, Names, Resets, AbortsTag, Other, message_of, greeted, aborted, told, messaged_by, target_messaged}
 use Rattle.unit_tasks.specs.declared.queued.QueuedUnit.{QueuedUnit}
-use Rattle.scsi_target.specs.Devices.{where_room}
+use Rattle.target_law.specs.Devices.{where_room}
 use Rattle.scsi_target.specs.Messages.{told_of, parting_told, link_named}
 use Rattle.scsi_target.specs.Partings.{May, target_by}
 use Rattle.scsi_target.specs.Slots.{slot_of}

@@ -1,5 +1,5 @@
 -- The link where a task is made of a command.
-use Rattle.std.specs.Prelude.{ℕ, nat_lt, ◌||◌, if◌then◌else◌, Bool, false, List, []}
+use Rattle.std.specs.Prelude.{◌≡◌, ℕ, ◌<◌, nat_lt, ◌||◌, if◌then◌else◌, Bool, false, List, [], length}
 use Rattle.cdb_codec.specs.declared.commands.Cdb.{Cdb}
 use Rattle.cdb_codec.specs.Forms.{need_of}
 use Rattle.target_law.specs.declared.nexus.Nexus.{Nexus}
@@ -22,3 +22,7 @@ link_begun n c u ticket =
       task = began n.tag ticket c u.rig.disconnects (has_ended u.log ticket);
       shows = Choosing;
     })
+
+-- a unit that has no task of the tag has a place for one more
+abbrev pub HasPlaceFor : Nexus → LogicalUnit → Type 0
+HasPlaceFor n u = has_tag u.tasks n.tag ≡ false → length u.tasks < u.rig.depth

@@ -1,6 +1,7 @@
 pub mod Devices
 pub mod Slots
 pub mod Views
+pub mod Held
 pub mod Moves
 pub mod Partings
 pub mod Beginnings

@@ -1,6 +1,7 @@
 -- The eight places for the units of a device.
 use Rattle.std.specs.Prelude.{◌≡◌, ℕ, ◌&&◌, Bool, true, List, [], ◌∷◌, slice_get, Option, Some, None}
 use Rattle.target_law.specs.Target.{LogicalUnit}
+use Rattle.target_law.specs.Calls.{slot_has_unit, slot_answers}
 use Rattle.unit_tasks.specs.Units.{unit_of}
 use Rattle.unit_tasks.specs.Resets.{can_reset, reset_by}
 use Rattle.unit_tasks.specs.declared.queued.QueuedUnit.{QueuedUnit}
@@ -12,6 +13,13 @@ slot_of (Some q) = Some (unit_of q)
 abbrev pub room_of : Option QueuedUnit → ℕ
 room_of None = 0
 room_of (Some q) = q.core.log.room
+
+-- there is a unit in a place, and one that answers a selection
+abbrev pub has_unit_in : Option QueuedUnit → Bool
+has_unit_in o = slot_has_unit (slot_of o)
+
+abbrev pub answers_in : Option QueuedUnit → Bool
+answers_in o = slot_answers (slot_of o)
 
 -- the unit of a LUN is there, and this holds of it
 abbrev pub At : List (Option QueuedUnit) → ℕ → (QueuedUnit → Type 0) → Type 0

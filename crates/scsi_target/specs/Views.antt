@@ -11,7 +11,7 @@ use Rattle.target_law.specs.Calls.{slot_is_rogue}
 use Rattle.unit_tasks.specs.Units.{unit_of}
 use Rattle.unit_tasks.specs.Queue.{AllWait}
 use Rattle.unit_tasks.specs.declared.queued.QueuedUnit.{QueuedUnit}
-use Rattle.scsi_target.specs.Devices.{DeviceState}
+use Rattle.target_law.specs.Devices.{DeviceState}
 use Rattle.scsi_target.specs.Slots.{slot_of, room_of, At}
 use Rattle.scsi_target.specs.declared.link.Link.{Link as HeldLink}
 use Rattle.scsi_target.specs.declared.link.Link.TheVariants as held

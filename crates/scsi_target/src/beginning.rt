@@ -3,10 +3,11 @@
 ghost use Rattle.std.specs.Prelude.{◌≡◌, ◌<◌, Bool, true, false, not, map, vec_len, Some, IsSome};
 ghost use Rattle.cdb_codec.specs.Blocks.{cdb_of};
 ghost use Rattle.cdb_codec.specs.Forms.{FitsForm};
-ghost use Rattle.target_law.specs.Calls.{is_whole, whole_by, begun_with, target_begun};
+ghost use Rattle.target_law.specs.Beginning.{where_placed, begins, target_took};
+ghost use Rattle.target_law.specs.Calls.{is_whole, whole_by, link_takes, begun_with, target_begun};
 ghost use Rattle.unit_tasks.specs.Units.{unit_of};
-ghost use Rattle.scsi_target.specs.Beginnings.{makes_none, link_begun};
-ghost use Rattle.scsi_target.specs.Devices.{HasPlace, HasPlaceFor};
+ghost use Rattle.scsi_target.specs.Beginnings.{makes_none, link_begun, HasPlaceFor};
+ghost use Rattle.scsi_target.specs.Devices.{HasPlace};
 ghost use Rattle.scsi_target.specs.Partings.{IsOnlyHere};
 ghost use Rattle.scsi_target.specs.Slots.{room_of, At};
 ghost use Rattle.scsi_target.specs.Views.{link_of, device_of, IsSlot, IsDevice};
@@ -38,6 +39,39 @@ impl Device {
         let link = mem::replace(&mut self.link, Link::Free);
         self.link = begun(&mut self.units, link, ticket);
     }
+
+    /// Takes a byte from the initiator as `byte_out` does. Where it is the last one of a command descriptor block, the
+    /// task begins in this very call, with the live ticket of the connection's nexus; the bus goes free instead where
+    /// there is no such ticket, where the unit has a task of the tag already or no place for one more, or where the
+    /// command needs more than 65,536 bytes. So no whole command ever waits for its task.
+    pub fn take_byte(&mut self, b: u8, ticket: Option<u32>) -> bool
+        ensures taken { result ≡ link_takes self.old.target.link }
+        ensures state { self.new ≡ record { target = target_took (λ n. ticket) self.old.target b; rooms = self.old.rooms } }
+    {
+        if !self.byte_out(b) {
+            return false;
+        }
+        self.begin_where_whole(ticket);
+        true
+    }
+
+    /// Makes the task of a command that is whole, if it is.
+    fn begin_where_whole(&mut self, ticket: Option<u32>)
+        ensures { self.new ≡ record { target = begins (λ n. ticket) self.old.target; rooms = self.old.rooms } }
+    {
+        if !self.cdb_whole() {
+            return;
+        }
+        let placed = where_placed(self.has_place(), ticket);
+        self.begin_task(placed);
+    }
+}
+
+/// The ticket where there is a place for its task.
+fn where_placed(place: bool, ticket: Option<u32>) -> Option<u32>
+    ensures { result ≡ where_placed place ticket }
+{
+    if place { ticket } else { None }
 }
 
 /// The link after the beginning of a task.

@@ -6,9 +6,10 @@ ghost use Rattle.target_law.specs.Sound.{IsSound, IsWaiting};
 ghost use Rattle.target_law.specs.Strays.{strayed};
 ghost use Rattle.target_law.specs.Target.{session, unit_at, linked};
 ghost use Rattle.unit_tasks.specs.Units.{unit_of};
-ghost use Rattle.target_law.specs.Calls.{IsToChoose, is_rogue, asked_by, link_or_free, candidates, selected_by, target_selected, target_reselected, target_acted};
+ghost use Rattle.target_law.specs.Calls.{IsToChoose, is_straying, asked_by, link_or_free, candidates, selected_by, target_selected, target_reselected, target_acted};
 ghost use Rattle.target_law.specs.Lawful.{CanOf, IsThere, May, Named};
-ghost use Rattle.scsi_target.specs.Devices.{IsFree, IsAbsent, where_room};
+ghost use Rattle.target_law.specs.Devices.{where_room};
+ghost use Rattle.scsi_target.specs.Devices.{IsFree, IsPresent};
 ghost use Rattle.scsi_target.specs.Moves.{has_room, unit_moved, connection_moved};
 ghost use Rattle.scsi_target.specs.Views.{link_of};
 
@@ -24,7 +25,7 @@ impl Device {
     /// Condition: it isn't absent, and isn't connected.
     pub fn select(&mut self)
         requires free { IsFree self.old }
-        requires present { IsAbsent self.old → ⊥ }
+        requires present { IsPresent self.old }
         ensures { self.new ≡ record { target = target_selected self.old.target; rooms = self.old.rooms } }
     {
         self.link = selected(self.rogue);
@@ -37,7 +38,7 @@ impl Device {
     /// unit's candidates.
     pub fn reselect(&mut self, lun: u8, n: u32, tag: u8)
         requires free { IsFree self.old }
-        requires present { IsAbsent self.old → ⊥ }
+        requires present { IsPresent self.old }
         requires candidate { IsThere (unit_at self.old.target.units lun) (λ u. n < candidates u) }
         ensures { self.new ≡ record { target = target_reselected self.old.target lun n tag; rooms = self.old.rooms } }
     {
@@ -114,12 +115,11 @@ impl Device {
         }
     }
 
-    /// ATN is asserted, and the target shows MSG_OUT.
+    /// ATN is asserted, and a connected task shows MSG_OUT. Where no task is connected, nothing changes.
     ///
-    /// Condition: the target is connected, is to choose and doesn't break the rules.
+    /// Condition: no units that break the rules are connected.
     pub fn ask_message(&mut self)
-        requires choosing { IsToChoose self.old.target.link }
-        requires lawful { is_rogue self.old.target ≡ false }
+        requires { is_straying self.old.target.link ≡ false }
         ensures { self.new ≡ record { target = linked self.old.target (asked_by self.old.target.link); rooms = self.old.rooms } }
     {
         if let Link::Working(connection) = &mut self.link {

@@ -1,6 +1,7 @@
 //! Bytes, and whether a command is whole.
 
 ghost use Rattle.std.specs.Prelude.{◌≡◌, not};
+ghost use Rattle.target_law.specs.Sound.{HaveDistinctTags};
 ghost use Rattle.target_law.specs.Target.{linked};
 ghost use Rattle.target_law.specs.Calls.{link_byte, sent_if, link_takes, took_if, whole_by, is_whole};
 ghost use Rattle.scsi_target.specs.Views.{link_of, block_took, HoldsOn, IsBlock, IsHeld};
@@ -33,9 +34,11 @@ impl Device {
         take(&mut self.link, b)
     }
 
-    /// Whether COMMAND has taken its last byte, and no task was made of it.
+    /// Whether COMMAND has taken its last byte, and no task was made of it. No two tasks of a unit have one tag, the
+    /// connected one and those that wait.
     pub fn cdb_whole(&self) -> bool
-        ensures { result ≡ whole_by self.now.target.link }
+        ensures whole { result ≡ whole_by self.now.target.link }
+        ensures tags { HaveDistinctTags self.now.target }
     {
         is_whole(&self.link)
     }

@@ -1,12 +1,16 @@
 //! The device: its opening, and what can be read of it.
 
-ghost use Rattle.std.specs.Prelude.{◌≡◌, ◌≤◌, ◌<◌, ◌+◌, ℕ, Some, None, true, false, not, length, replicate, vec_len, slice_get, IfOk, IfSome, OnOk, OnErr, IsTrue, ◌↔◌, max};
+ghost use Rattle.std.specs.Prelude.{◌≡◌, ◌<◌, ◌+◌, ℕ, Some, None, true, false, not, length, replicate, vec_len, slice_get, IfOk, IfSome, OnOk, OnErr};
+ghost use Rattle.std.specs.List.{list_any};
 ghost use Rattle.plain_lun.specs.Unit.{blocks_of};
 ghost use Rattle.plain_lun.specs.Performing.{blocks_at};
 ghost use Rattle.target_law.specs.Target.{unit_at};
-ghost use Rattle.target_law.specs.Calls.{is_free, link_phase, nexus_of, whole_by, candidates};
+ghost use Rattle.target_law.specs.Calls.{is_free, is_rogue, is_straying, is_absent, answers, link_phase, nexus_of, candidates};
+ghost use Rattle.target_law.specs.Beginning.{has_place};
+ghost use Rattle.target_law.specs.Devices.{room_at, device_opened, device_reserved};
 ghost use Rattle.target_law.specs.Lawful.{IsThere};
-ghost use Rattle.scsi_target.specs.Devices.{DeviceState, IsOneTarget, first_is_rogue, HasUnit, HasPlace, HasPlaceFor, device_opened, room_at};
+ghost use Rattle.scsi_target.specs.Devices.{IsOneTarget, IsPresent, first_is_rogue, HasUnit, place_for};
+ghost use Rattle.scsi_target.specs.Slots.{slot_of, has_unit_in, answers_in};
 
 use crate::link::Link;
 use rig_types::Unit;
@@ -30,14 +34,15 @@ pub struct Device {
 
 impl Model for Device {
     ghost use Rattle.std.specs.Prelude.{vec_len};
-    ghost use Rattle.scsi_target.specs.Devices.{DeviceState};
-    ghost use Rattle.scsi_target.specs.Views.{device_of, IsDevice};
+    ghost use Rattle.target_law.specs.Devices.{DeviceState};
+    ghost use Rattle.scsi_target.specs.Held.{IsHeldDevice};
+    ghost use Rattle.scsi_target.specs.Views.{device_of};
 
     ghost Value = { DeviceState };
 
     ghost view = { λ d. device_of d.units.items d.link };
 
-    ghost invariant = { λ d. IsDevice (vec_len d.units) d.units.items d.link d.rogue };
+    ghost invariant = { λ d. IsHeldDevice (vec_len d.units) d.units.items d.link d.rogue };
 }
 
 impl Device {
@@ -61,17 +66,13 @@ impl Device {
         })
     }
 
-    /// Makes room in a unit's log, so that `n` more entries fit, and no more than that. An `Err` leaves the device as
-    /// it was; it is want of memory, and never comes where the entries fitted before.
+    /// Makes room in a unit's log, so that `n` more entries fit, and no more than that; nothing else changes. An `Err`
+    /// leaves the device as it was; it is want of memory, and never comes where the entries fitted before.
     ///
     /// Condition: the LUN is there.
     pub fn reserve(&mut self, lun: u8, n: u32) -> Result<(), AllocError>
         requires { HasUnit self.old lun }
-        ensures target { self.new.target ≡ self.old.target }
-        ensures spare { OnOk result (IsThere (unit_at self.old.target.units lun) (λ u. length u.log + n ≤ room_at self.new lun)) }
-        ensures rooms { (k : ℕ) → room_at self.old k ≤ room_at self.new k }
-        ensures others { (k : ℕ) → (k ≡ lun → ⊥) → room_at self.new k ≡ room_at self.old k }
-        ensures exact { OnOk result (IsThere (unit_at self.old.target.units lun) (λ u. room_at self.new lun ≡ max (room_at self.old lun) (length u.log + n))) }
+        ensures ok { OnOk result (self.new ≡ device_reserved self.old lun n) }
         ensures err { OnErr result (self.new ≡ self.old) }
         ensures full { OnErr result (IsThere (unit_at self.old.target.units lun) (λ u. room_at self.old lun < length u.log + n)) }
     {
@@ -134,7 +135,7 @@ impl Device {
     /// Whether `begin_task` may be called with a ticket: the named unit has a task of that tag, so that none begins, or
     /// fewer tasks than its depth. It is true where no nexus is named.
     pub fn has_place(&self) -> bool
-        ensures { IsTrue result ↔ HasPlace self.now }
+        ensures { result ≡ place_for self.now.target (nexus_of self.now.target.link) }
     {
         match self.nexus() {
             Some(nexus) => self.has_place_for(nexus),
@@ -144,13 +145,35 @@ impl Device {
 
     fn has_place_for(&self, nexus: Nexus) -> bool
         requires { nexus.lun < 8 }
-        ensures { IsTrue result ↔ IsThere (unit_at self.now.target.units nexus.lun) (HasPlaceFor nexus) }
+        ensures { result ≡ place_for self.now.target (Some nexus) }
     {
-        match &self.units[nexus.lun as usize] {
-            Some(unit) => unit.tasks.has_tag(nexus.tag)
-                || unit.tasks.len() < unit.rig.depth as usize,
-            None => false,
-        }
+        has_place_in(&self.units[nexus.lun as usize], nexus.tag)
+    }
+
+    /// Whether its units break the rules of the bus. Only then may such units be connected, and may a reselection of a
+    /// unit show any tag.
+    pub fn is_rogue(&self) -> bool
+        ensures rogue { result ≡ is_rogue self.now.target }
+        ensures link { result ≡ false → is_straying self.now.target.link ≡ false }
+    {
+        self.rogue
+    }
+
+    /// Whether the target is absent: it has units, and none of them answers.
+    pub fn is_absent(&self) -> bool
+        ensures { result ≡ is_absent self.now.target }
+    {
+        let some = has_units(&self.units);
+        let none_answers = !answers(&self.units);
+        some & none_answers
+    }
+
+    /// Whether the target answers a selection: it has a unit that isn't absent.
+    pub fn answers(&self) -> bool
+        ensures answers { result ≡ answers self.now.target }
+        ensures present { result ≡ true → IsPresent self.now }
+    {
+        answers(&self.units)
     }
 
     /// Copies a block of a unit's disk.
@@ -178,6 +201,39 @@ impl Device {
             Some(unit) => unit.core.log.entry(n),
             None => unreachable!(),
         }
+    }
+}
+
+/// Whether the unit in a place, if there is one, has a place for a task of the tag.
+fn has_place_in(unit: &Option<QueuedUnit>, tag: u8) -> bool
+    ensures { result ≡ has_place (slot_of unit.now) tag }
+{
+    match unit {
+        Some(unit) => unit.tasks.has_tag(tag) || unit.tasks.len() < unit.rig.depth as usize,
+        None => false,
+    }
+}
+
+/// Whether there is a unit.
+fn has_units(units: &[Option<QueuedUnit>]) -> bool
+    ensures { result ≡ list_any has_unit_in units.now }
+{
+    units.iter().any(|unit| unit.is_some())
+}
+
+/// Whether a unit isn't absent.
+fn answers(units: &[Option<QueuedUnit>]) -> bool
+    ensures { result ≡ list_any answers_in units.now }
+{
+    units.iter().any(|unit| is_present(unit))
+}
+
+fn is_present(unit: &Option<QueuedUnit>) -> bool
+    ensures { result ≡ answers_in unit.now }
+{
+    match unit {
+        Some(unit) => !unit.rig.absent,
+        None => false,
     }
 }
 

@@ -5,7 +5,7 @@ ghost use Rattle.scsi_words.specs.declared.phases.kinds.Phase.TheVariants.{MsgOu
 ghost use Rattle.target_law.specs.Target.{target_reset, unit_at};
 ghost use Rattle.target_law.specs.Calls.{link_phase, WaitsForAck, target_messaged, target_acked};
 ghost use Rattle.target_session.specs.Sessions.{heard_on};
-ghost use Rattle.scsi_target.specs.Devices.{where_room};
+ghost use Rattle.target_law.specs.Devices.{where_room};
 ghost use Rattle.scsi_target.specs.Partings.{parting_of};
 ghost use Rattle.scsi_target.specs.Messages.{parting_told, link_named};
 ghost use Rattle.scsi_target.specs.Slots.{slot_of};

@@ -4,7 +4,7 @@ ghost use Rattle.std.specs.Prelude.{◌≡◌, ◌<◌, ◌-◌, false, not, nat
 ghost use Rattle.target_law.specs.Target.{Free, unit_left, drops, unit_after, session};
 ghost use Rattle.target_session.specs.Sessions.{closed_on};
 ghost use Rattle.unit_tasks.specs.Units.{unit_of};
-ghost use Rattle.scsi_target.specs.Devices.{where_room};
+ghost use Rattle.target_law.specs.Devices.{where_room};
 ghost use Rattle.scsi_target.specs.Views.{device_of, IsSlot, IsConnected, IsDevice};
 ghost use Rattle.scsi_target.specs.Partings.{unit_by, target_by, IsLast, May, IsMade};
 ghost use Rattle.scsi_target.specs.declared.link.Link.TheVariants as held;

@@ -4,7 +4,7 @@ ghost use Rattle.std.specs.Prelude.{◌≡◌, ◌≤◌, ℕ, Bool, true, false
 ghost use Rattle.target_law.specs.Target.{target_reset};
 ghost use Rattle.unit_tasks.specs.Resets.{can_reset};
 ghost use Rattle.unit_tasks.specs.declared.queued.QueuedUnit.{QueuedUnit};
-ghost use Rattle.scsi_target.specs.Devices.{lie_within, where_room};
+ghost use Rattle.target_law.specs.Devices.{lie_within, where_room};
 ghost use Rattle.scsi_target.specs.Resettings.{with_task, HasNoTask};
 ghost use Rattle.scsi_target.specs.Slots.{room_of, slot_after, slot_can_reset, all_can_reset};
 ghost use Rattle.scsi_target.specs.Views.{device_of, IsDevice};

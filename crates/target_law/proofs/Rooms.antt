@@ -1,8 +1,9 @@
 -- Logs within their rooms.
-use Rattle.std.proofs.Common.{◌≡◌, ℕ, zero, suc, ◌≤◌, ◌<◌, Bool, true, false, List, [], ◌∷◌, refl, ap, sym, ◌∙◌, arith, Option, Some, None, length, nat_le, ◌&&◌, slice_set, slice_index_or, if◌then◌else◌}
+use Rattle.std.proofs.lemmas.List.{get_or-set_same, get_or-set_other}
+use Rattle.std.proofs.Common.{◌≡◌, ◌≢◌, ℕ, zero, suc, ◌+◌, max, ◌≤◌, ◌<◌, Bool, true, false, List, [], ◌∷◌, refl, ap, sym, ◌∙◌, arith, Option, Some, None, length, nat_le, ◌&&◌, slice_set, slice_index_or, if◌then◌else◌}
 use Rattle.std.proofs.lemmas.Bool.Decides.{nat_tests}
 use Rattle.target_law.specs.Target.{LogicalUnit, Target, unit_at}
-use Rattle.target_law.specs.Devices.{DeviceState, lies_within, lie_within, where_room}
+use Rattle.target_law.specs.Devices.{DeviceState, room_at, lies_within, lie_within, where_room, reserved_for, device_reserved}
 
 both : (a b : Bool) → (a && b) ≡ true → (a ≡ true) × (b ≡ true)
 both true true e = (refl, refl)
@@ -64,3 +65,25 @@ where_true d t e = rw e refl
 pub where_false : (d : DeviceState) (t : Target) → lie_within t.units d.rooms ≡ false → where_room d t ≡ d
 unfolding where_room
 where_false d t e = rw e refl
+
+-- room was made in a unit's log
+reserved_for-target : (d : DeviceState) (lun n : ℕ) (o : Option LogicalUnit) → (reserved_for d lun n o).target ≡ d.target
+reserved_for-target d lun n None = refl
+reserved_for-target d lun n (Some u) = refl
+
+pub device_reserved-target : (d : DeviceState) (lun n : ℕ) → (device_reserved d lun n).target ≡ d.target
+unfolding device_reserved
+device_reserved-target d lun n = reserved_for-target d lun n (unit_at d.target.units lun)
+
+pub device_reserved-here : (d : DeviceState) (lun n : ℕ) (u : LogicalUnit) → unit_at d.target.units lun ≡ Some u → lun < length d.rooms → room_at (device_reserved d lun n) lun ≡ max (room_at d lun) (length u.log + n)
+unfolding device_reserved
+device_reserved-here d lun n u e l =
+    ap (λ (o : Option LogicalUnit). room_at (reserved_for d lun n o) lun) e ∙ get_or-set_same d.rooms lun (max (room_at d lun) (length u.log + n)) 0 l
+
+reserved_for-other : (d : DeviceState) (lun n k : ℕ) (o : Option LogicalUnit) → k ≢ lun → room_at (reserved_for d lun n o) k ≡ room_at d k
+reserved_for-other d lun n k None e = refl
+reserved_for-other d lun n k (Some u) e = get_or-set_other d.rooms lun k (max (room_at d lun) (length u.log + n)) 0 e
+
+pub device_reserved-other : (d : DeviceState) (lun n k : ℕ) → k ≢ lun → room_at (device_reserved d lun n) k ≡ room_at d k
+unfolding device_reserved
+device_reserved-other d lun n k e = reserved_for-other d lun n k (unit_at d.target.units lun) e

@@ -26,6 +26,7 @@ use Rattle.target_law.specs.Target.{LogicalUnit, Link, Free, Greeted, Commanded,
 use Rattle.target_law.specs.Calls.{Heard, Names, Resets, AbortsTag, Other, has_tag, has_ended, is_rogue, selected_by, target_selected, task_reselected, reselected_by, target_reselected, link_or_free, strays, acted_by, target_acted, asked_by, link_byte, link_sent, sent_if, link_takes, link_took, took_if, whole_by, nexus_of, message_of, greeted, aborted, told, messaged_by, target_messaged, noted_by, shown_acked, acked_by, target_acked, begun, begun_with, begun_by, target_begun}
 use Rattle.target_law.specs.Beginning.{ticket_for, begins_if, took_where, target_took}
 use Rattle.target_law.specs.Devices.{DeviceState, lie_within, where_room}
+use Rattle.target_law.specs.Laws.{TagsStayDistinct}
 use Rattle.target_law.proofs.TagLists.{are_distinct, Apart, apart-of, distinct-of, distinct-by_tag, apart-remove, pairs-of, of_pairs}
 
 -- the tasks of each unit, with these units and this link
@@ -435,3 +436,21 @@ where-dist false d t h i = h
 pub where_room-tags : (d : DeviceState) (t : Target) → HaveDistinctTags d.target → HaveDistinctTags t → HaveDistinctTags (where_room d t).target
 unfolding where_room
 where_room-tags d t h i = where-dist (lie_within t.units d.rooms) d t h i
+
+-- at the opening, and after each call
+pub tags_stay : TagsStayDistinct
+tags_stay = record {
+  opened = λ rs. tags-of (target_opened rs) (opened-dist rs);
+  selected = λ t h. tags-of (target_selected t) (selected-dist t (dist-of t h));
+  reselected = λ lun n tag t h. tags-of (target_reselected t lun n tag) (reselected-dist t lun n tag (dist-of t h));
+  acted = λ m t h. tags-of (target_acted t m) (acted-dist t m (dist-of t h));
+  asked = λ t h. tags-of (linked t (asked_by t.link)) (asked-dist t.units t.link (dist-of t h));
+  sent = λ t h. tags-of (linked t (sent_if (link_byte t.link) t.link)) (sent-dist t.units t.link (link_byte t.link) (dist-of t h));
+  taken = λ b t h. tags-of (linked t (took_if (link_takes t.link) t.link b)) (taken-dist t.units t.link (link_takes t.link) b (dist-of t h));
+  messaged = λ t h. tags-of (target_messaged t) (messaged-dist t (dist-of t h));
+  acked = λ t h. tags-of (target_acked t) (acked-dist t (dist-of t h));
+  reset = λ t h. tags-of (target_reset t) (reset-dist t);
+  begun = λ ticket t h. tags-of (target_begun t ticket) (target_begun-dist t ticket (dist-of t h));
+  took = λ live b t h. tags-of (target_took live t b) (target_took-dist live t b (dist-of t h));
+  with_room = where_room-tags;
+}

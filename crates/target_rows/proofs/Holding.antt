@@ -16,11 +16,13 @@ use Rattle.target_law.specs.declared.nexus.Nexus.{Nexus}
 use Rattle.target_law.specs.Bytes.{Connection, phase_of, byte_by, sent_by}
 use Rattle.target_law.specs.Strays.{stray_phase, stray_byte, stray_sent}
 use Rattle.target_law.specs.Target.{LogicalUnit, unit_opened, Link, Free, Greeted, Commanded, Working, Straying, Target, unit_at, with_unit, target_opened}
-use Rattle.target_law.specs.Calls.{is_free, link_phase, link_byte, sent_if, candidates, slot_is_rogue, is_rogue, IsToChoose, WaitsForAck}
-use Rattle.scsi_target.specs.Devices.{DeviceState, device_opened, lie_within, where_room, room_at}
-use Rattle.target_rows.proofs.Rigs.{Same}
+use Rattle.target_law.specs.Calls.{is_free, link_phase, link_byte, sent_if, candidates, is_rogue, slot_answers, slot_has_unit, answers, is_absent, IsToChoose, WaitsForAck}
+use Rattle.target_law.specs.Devices.{DeviceState, device_opened, lie_within, where_room, room_at, reserved_for, device_reserved}
+use Rattle.target_law.proofs.Rooms.{device_reserved-target}
+use Rattle.target_law.proofs.Rigs.{Same}
 use Rattle.target_law.specs.Lawful.{IsThere}
-use Rattle.target_rows.specs.Rigs.{rigs, alone, IsPresent, IsHeld}
+use Rattle.target_law.specs.Rigs.{rigs}
+use Rattle.target_rows.specs.Rigs.{alone, IsPresent, IsHeld}
 
 pub opened-rigs : (r : RigUnit) → r.lun ≡ 3 → rigs (target_opened (r ∷ [])).units ≡ alone r
 unfolding target_opened with_unit
@@ -43,50 +45,30 @@ unit-there us r h =
     subst (λ n. IsThere (unit_at us n) (λ u. Unit {0})) (sym h.unit.lun)
     (there-weak (unit_at us 3) r (there-by us 3 r (ap (λ rs. slice_get rs 3) h.rigs_are)))
 
--- no unit is absent
-rig-by : (us : List (Option LogicalUnit)) (n : ℕ) → IsThere (unit_at us n) (λ u. u.rig.absent ≡ true) → (r : RigUnit) × (slice_get (rigs us) n ≡ Some (Some r)) × (r.absent ≡ true)
-unfolding unit_at
-rig-by [] n e = absurd e
-rig-by (None ∷ us) zero e = absurd e
-rig-by (Some u ∷ us) zero e = (u.rig, refl, e)
-rig-by (x ∷ us) (suc n) e = rig-by us n e
+-- the target isn't absent
+abbrev answers_by : Option RigUnit → Bool
+answers_by None = false
+answers_by (Some r) = not r.absent
 
-alone-by : (r s : RigUnit) (n : ℕ) → slice_get (alone r) n ≡ Some (Some s) → r ≡ s
-alone-by r s zero e = cc
-alone-by r s (suc zero) e = cc
-alone-by r s (suc (suc zero)) e = cc
-alone-by r s (suc (suc (suc zero))) e = cc
-alone-by r s (suc (suc (suc (suc zero)))) e = cc
-alone-by r s (suc (suc (suc (suc (suc zero))))) e = cc
-alone-by r s (suc (suc (suc (suc (suc (suc zero)))))) e = cc
-alone-by r s (suc (suc (suc (suc (suc (suc (suc zero))))))) e = cc
-alone-by r s (suc (suc (suc (suc (suc (suc (suc (suc n)))))))) e = cc
+answers-is : (us : List (Option LogicalUnit)) → list_any slot_answers us ≡ list_any answers_by (rigs us)
+answers-is [] = refl
+answers-is (None ∷ us) = ap (λ b. false || b) (answers-is us)
+answers-is (Some u ∷ us) = ap (λ b. not u.rig.absent || b) (answers-is us)
 
-pub none-absent : (us : List (Option LogicalUnit)) (r : RigUnit) → IsHeld us r → (lun : ℕ) × IsThere (unit_at us lun) (λ u. u.rig.absent ≡ true) → ⊥
-none-absent us r h a =
-    let s : (x : RigUnit) × (slice_get (rigs us) a.0 ≡ Some (Some x)) × (x.absent ≡ true) = rig-by us a.0 a.1 in
-    let same : r ≡ s.0 = alone-by r s.0 a.0 (ap (λ rs. slice_get rs a.0) (sym h.rigs_are) ∙ s.1) in
-    let f : r.absent ≡ true = ap (λ (x : RigUnit). x.absent) same ∙ s.2 in
-    let g : r.absent ≡ false = h.unit.present in
-    absurd cc
+not-or : (b : Bool) → b ≡ false → (not b || false) ≡ true
+not-or false e = refl
+not-or true e = cc
 
--- whether the units break the rules
-abbrev breaks : Option RigUnit → Bool
-breaks None = false
-breaks (Some r) = r.rogue
+and-not : (a b : Bool) → b ≡ true → (a && not b) ≡ false
+and-not true true e = refl
+and-not false true e = refl
+and-not a false e = cc
 
-rogue-by : (us : List (Option LogicalUnit)) → list_any slot_is_rogue us ≡ list_any breaks (rigs us)
-rogue-by [] = refl
-rogue-by (None ∷ us) = ap (λ b. false || b) (rogue-by us)
-rogue-by (Some u ∷ us) = ap (λ b. u.rig.rogue || b) (rogue-by us)
-
-or-false : (b : Bool) → (b || false) ≡ b
-or-false true = refl
-or-false false = refl
-
-pub rogue-is : (t : Target) (r : RigUnit) → IsHeld t.units r → is_rogue t ≡ r.rogue
-unfolding is_rogue
-rogue-is t r h = rogue-by t.units ∙ ap (λ rs. list_any breaks rs) h.rigs_are ∙ or-false r.rogue
+pub present-is : (t : Target) (r : RigUnit) → IsHeld t.units r → is_absent t ≡ false
+unfolding is_absent answers
+present-is t r h =
+    let a : list_any slot_answers t.units ≡ true = answers-is t.units ∙ ap (λ rs. list_any answers_by rs) h.rigs_are ∙ not-or r.absent h.unit.present in
+    and-not (list_any slot_has_unit t.units) (list_any slot_answers t.units) a
 
 -- connected, and no phase is shown
 shows-none : (s : Showing) → phase_of s ≡ None → s ≡ Choosing
@@ -249,18 +231,14 @@ stays-without i d r n count h e c l =
 abbrev Asks : DeviceState → Type 0
 Asks d = (is_rogue d.target ≡ false) × IsToChoose d.target.link
 
-pub asks-rogue : (i d : DeviceState) (r : RigUnit) → IsHeld i.target.units r → i ≡ d → r.rogue ≡ true → IsTrue false ↔ Asks d
-asks-rogue i d r h e f =
-    let g : is_rogue d.target ≡ true = subst (λ (x : DeviceState). is_rogue x.target ≡ true) e (rogue-is i.target r h ∙ f) in
-    (λ t. absurd cc, λ a. let k : is_rogue d.target ≡ false = a.0 in absurd cc)
+pub asks-rogue : (d : DeviceState) (rogue : Bool) → rogue ≡ is_rogue d.target → rogue ≡ true → IsTrue false ↔ Asks d
+asks-rogue d rogue e f = (λ t. absurd cc, λ a. let k : is_rogue d.target ≡ false = a.0 in absurd cc)
 
 pub asks-not : (d : DeviceState) (is : Bool) → is ≡ false → (IsToChoose d.target.link → IsTrue is) → IsTrue false ↔ Asks d
 asks-not d is e f = (λ t. absurd cc, λ a. subst (λ (x : Bool). IsTrue x) e (f a.1))
 
-pub asks-so : (i d : DeviceState) (r : RigUnit) (is : Bool) → IsHeld i.target.units r → i ≡ d → r.rogue ≡ false → is ≡ true → (IsTrue is → IsToChoose d.target.link) → IsTrue true ↔ Asks d
-asks-so i d r is h e f g k =
-    let a : is_rogue d.target ≡ false = subst (λ (x : DeviceState). is_rogue x.target ≡ false) e (rogue-is i.target r h ∙ f) in
-    (λ t. (a, k (subst (λ (x : Bool). IsTrue x) (sym g) t)), λ b. refl)
+pub asks-so : (d : DeviceState) (rogue is : Bool) → rogue ≡ is_rogue d.target → rogue ≡ false → is ≡ true → (IsTrue is → IsToChoose d.target.link) → IsTrue true ↔ Asks d
+asks-so d rogue is e f g k = (λ t. (sym e ∙ f, k (subst (λ (x : Bool). IsTrue x) (sym g) t)), λ b. refl)
 
 -- the room that the unit's log is given at the opening
 opened-unit : (r : RigUnit) → r.lun ≡ 3 → unit_at (target_opened (r ∷ [])).units 3 ≡ Some (unit_opened r)
@@ -270,9 +248,14 @@ opened-unit r e = rw e refl
 none-before : (n : ℕ) → max 0 (0 + n) ≡ n
 none-before n = omega arith
 
-pub opened-room : (r : RigUnit) (room : ℕ) (d d' : DeviceState) → r.lun ≡ 3 → d ≡ device_opened (r ∷ []) → IsThere (unit_at d.target.units r.lun) (λ u. room_at d' r.lun ≡ max (room_at d r.lun) (length u.log + room)) → room_at d' 3 ≡ room
+reserved-room : (r : RigUnit) (room : ℕ) → r.lun ≡ 3 → room_at (device_reserved (device_opened (r ∷ [])) 3 room) 3 ≡ room
+unfolding device_reserved
+reserved-room r room e = ap (λ (o : Option LogicalUnit). room_at (reserved_for (device_opened (r ∷ [])) 3 room o) 3) (opened-unit r e) ∙ none-before room
+
+pub opened-room : (r : RigUnit) (room : ℕ) (d d' : DeviceState) → r.lun ≡ 3 → d ≡ device_opened (r ∷ []) → d' ≡ device_reserved d r.lun room → room_at d' 3 ≡ room
 opened-room r room d d' lun o m =
-    let at-lun = subst (λ n. IsThere (unit_at d.target.units n) (λ u. room_at d' n ≡ max (room_at d n) (length u.log + room))) lun m in
-    let at-opening = subst (λ (x : DeviceState). IsThere (unit_at x.target.units 3) (λ u. room_at d' 3 ≡ max (room_at x 3) (length u.log + room))) o at-lun in
-    let given : room_at d' 3 ≡ max 0 (0 + room) = subst (λ o. IsThere o (λ u. room_at d' 3 ≡ max 0 (length u.log + room))) (opened-unit r lun) at-opening in
-    given ∙ none-before room
+    ap (λ (x : DeviceState). room_at x 3) (m ∙ ap (λ (x : DeviceState). device_reserved x r.lun room) o ∙ ap (λ (n : ℕ). device_reserved (device_opened (r ∷ [])) n room) lun)
+    ∙ reserved-room r room lun
+
+pub opened-target : (r : RigUnit) (room : ℕ) (d d' : DeviceState) → d ≡ device_opened (r ∷ []) → d' ≡ device_reserved d r.lun room → d'.target ≡ target_opened (r ∷ [])
+opened-target r room d d' o m = ap (λ (x : DeviceState). x.target) m ∙ device_reserved-target d r.lun room ∙ ap (λ (x : DeviceState). x.target) o

@@ -1,2 +1,1 @@
-pub mod Rigs
 pub mod Holding

@@ -6,7 +6,7 @@ use Rattle.target_law.specs.declared.moves.Move.{Move}
 use Rattle.target_law.specs.Target.{Link, linked}
 use Rattle.target_law.specs.Calls.{link_phase, link_byte, sent_if, target_acted}
 use Rattle.target_law.specs.Lawful.{Named}
-use Rattle.scsi_target.specs.Devices.{DeviceState, where_room}
+use Rattle.target_law.specs.Devices.{DeviceState, where_room}
 
 -- after the byte that it has for the initiator, if it has one
 abbrev pub after_byte : DeviceState → DeviceState

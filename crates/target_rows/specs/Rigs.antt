@@ -1,15 +1,9 @@
--- What the rig says of the units of a target: no call changes it.
-use Rattle.std.specs.Prelude.{◌≡◌, false, List, [], ◌∷◌, map, Option, Some, None}
+-- A target with one unit. What the rig says of it no call changes.
+use Rattle.std.specs.Prelude.{◌≡◌, false, List, [], ◌∷◌, Option, Some, None}
 use Rattle.rig_types.specs.declared.rig.Unit.{Unit as RigUnit}
 use Rattle.rig_types.specs.Ranges.{IsUnit}
 use Rattle.target_law.specs.Target.{LogicalUnit}
-
-abbrev pub rig_of : Option LogicalUnit → Option RigUnit
-rig_of None = None
-rig_of (Some u) = Some u.rig
-
-abbrev pub rigs : List (Option LogicalUnit) → List (Option RigUnit)
-rigs units = map rig_of units
+use Rattle.target_law.specs.Rigs.{rigs}
 
 -- one unit, of LUN 3
 abbrev pub alone : RigUnit → List (Option RigUnit)

@@ -4,9 +4,10 @@ ghost use Rattle.std.specs.Prelude.{◌≡◌, ◌↔◌, ◌&&◌, nat_lt, if�
 ghost use Rattle.scsi_words.specs.declared.phases.kinds.Phase.TheVariants.{MsgOut};
 ghost use Rattle.target_law.specs.declared.moves.Move.{Move};
 ghost use Rattle.target_law.specs.Target.{unit_at, target_opened, linked, target_reset};
-ghost use Rattle.target_law.specs.Calls.{is_free, link_phase, nexus_of, candidates, IsToChoose, is_rogue, target_selected, target_reselected, asked_by, target_messaged, target_acked, link_byte, link_takes, took_if, whole_by, target_begun};
+ghost use Rattle.target_law.specs.Calls.{is_free, link_phase, nexus_of, candidates, IsToChoose, is_rogue, target_selected, target_reselected, asked_by, target_messaged, target_acked, link_byte, link_takes};
+ghost use Rattle.target_law.specs.Beginning.{target_took};
 ghost use Rattle.target_law.specs.Lawful.{IsThere, Named};
-ghost use Rattle.scsi_target.specs.Devices.{HasPlace, where_room, room_at};
+ghost use Rattle.target_law.specs.Devices.{where_room, room_at};
 ghost use Rattle.target_rows.specs.Calls.{after_byte, is_message_in, message_byte, ActsBy};
 ghost use Rattle.target_rows.specs.Rigs.{IsPresent};
 
@@ -27,7 +28,7 @@ pub struct Initiator {
 }
 
 impl Model for Initiator {
-    ghost use Rattle.scsi_target.specs.Devices.{DeviceState};
+    ghost use Rattle.target_law.specs.Devices.{DeviceState};
     ghost use Rattle.target_rows.specs.Rigs.{IsHeld};
 
     ghost Value = { DeviceState };
@@ -125,7 +126,10 @@ impl Initiator {
         ensures asks { IsTrue result ↔ ((is_rogue self.old.target ≡ false) × IsToChoose self.old.target.link) }
         ensures state { self.new ≡ (if result then record { target = linked self.old.target (asked_by self.old.target.link); rooms = self.old.rooms } else self.old) }
     {
-        if self.unit.rogue || !self.is_to_choose() {
+        if self.device.is_rogue() {
+            return false;
+        }
+        if !self.is_to_choose() {
             return false;
         }
         self.device.ask_message();
@@ -167,27 +171,13 @@ impl Initiator {
         byte
     }
 
-    /// The next byte for the target. False exactly where it takes none.
-    pub fn byte_out(&mut self, b: u8) -> bool
+    /// The next byte for the target; with the last one of a command its task begins, for this live ticket. False exactly
+    /// where the target takes no byte: nothing changes then.
+    pub fn byte_out(&mut self, b: u8, ticket: Option<u32>) -> bool
         ensures taken { result ≡ link_takes self.old.target.link }
-        ensures state { self.new ≡ record {
-          target = linked self.old.target (took_if (link_takes self.old.target.link) self.old.target.link b);
-          rooms = self.old.rooms;
-        } }
+        ensures state { self.new ≡ record { target = target_took (λ n. ticket) self.old.target b; rooms = self.old.rooms } }
     {
-        self.device.byte_out(b)
-    }
-
-    /// Makes the task of a whole command. False exactly where the command isn't whole, or has no place.
-    pub fn begin(&mut self, ticket: Option<u32>) -> bool
-        ensures begins { IsTrue result ↔ ((whole_by self.old.target.link ≡ true) × HasPlace self.old) }
-        ensures state { self.new ≡ (if result then record { target = target_begun self.old.target ticket; rooms = self.old.rooms } else self.old) }
-    {
-        if !self.device.cdb_whole() || !self.device.has_place() {
-            return false;
-        }
-        self.device.begin_task(ticket);
-        true
+        self.device.take_byte(b, ticket)
     }
 
     /// The move that a word names, `None` exactly where the target isn't to choose.

@@ -22,15 +22,6 @@ pub fold-core_drops : (ks : List Task) (u : LogicalUnit) (room : ℕ) → fold c
 fold-core_drops [] u room = refl
 fold-core_drops (k ∷ ks) u room = rw (core_drops_by-is k.senses u room k) (fold-core_drops ks (drops u k) room)
 
--- they keep what the rig says of it
-rig-drops_by : (b : Bool) (u : LogicalUnit) (k : Task) → (drops_by b u k).rig ≡ u.rig
-rig-drops_by true u k = refl
-rig-drops_by false u k = refl
-
-pub rig-drops : (ks : List Task) (u : LogicalUnit) → (fold drops u ks).rig ≡ u.rig
-rig-drops [] u = refl
-rig-drops (k ∷ ks) u = rw (rig-drops ks (drops u k)) (rig-drops_by k.senses u k)
-
 -- how many entries the drop of one task logs
 abbrev entry_count : Task → ℕ
 entry_count k = if logs_drop k then 1 else 0

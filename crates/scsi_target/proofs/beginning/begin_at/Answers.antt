@@ -2,7 +2,7 @@ use Rattle.std.proofs.Common.{refl}
 use Rattle.cdb_codec.specs.Blocks.{cdb_of}
 use Rattle.unit_tasks.specs.declared.queued.QueuedUnit.{QueuedUnit}
 use Rattle.unit_tasks.specs.Units.{unit_of}
-use Rattle.scsi_target.specs.Devices.{HasPlaceFor}
+use Rattle.scsi_target.specs.Beginnings.{HasPlaceFor}
 use Rattle.scsi_target.proofs.Parted.{here}
 use Rattle.scsi_target.proofs.Begins.{begun_device, begun_state}
 use Rattle.scsi_target.proofs.beginning.begin_at.Goals as goal

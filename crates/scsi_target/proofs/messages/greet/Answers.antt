@@ -1,7 +1,7 @@
 use Rattle.std.proofs.Common.{◌≡◌, ◌∙◌, ap, sym, refl, false, vec_len, map, List, ℕ}
 use Rattle.target_law.specs.Target.{Target}
 use Rattle.target_law.specs.Calls.{message_of}
-use Rattle.scsi_target.specs.Devices.{where_room}
+use Rattle.target_law.specs.Devices.{where_room}
 use Rattle.scsi_target.specs.Slots.{slot_of}
 use Rattle.scsi_target.specs.Messages.{told_of}
 use Rattle.scsi_target.specs.Views.{device_of}

@@ -1,7 +1,7 @@
 use Rattle.std.proofs.Common.{◌≡◌, ◌∙◌, ap, sym, false, Some, None, map}
 use Rattle.target_law.specs.declared.showing.Showing.{Showing}
 use Rattle.target_law.specs.Target.{Target}
-use Rattle.scsi_target.specs.Devices.{where_room}
+use Rattle.target_law.specs.Devices.{where_room}
 use Rattle.scsi_target.specs.Slots.{slot_of}
 use Rattle.scsi_target.specs.Partings.{parting_of}
 use Rattle.scsi_target.specs.Views.{device_of}

@@ -1,5 +1,5 @@
 use Rattle.std.proofs.Common.{◌≡◌, subst, sym, false, Some, slice_set, vec_len}
-use Rattle.scsi_target.specs.Devices.{where_room}
+use Rattle.target_law.specs.Devices.{where_room}
 use Rattle.scsi_target.specs.Views.{device_of, IsConnected, IsDevice}
 use Rattle.scsi_target.specs.Partings.{target_by}
 use Rattle.scsi_target.specs.declared.link.Link.TheVariants as held

@@ -4,7 +4,7 @@ use Rattle.target_law.specs.Target.{target_reset}
 use Rattle.scsi_target.specs.Slots.{slot_after}
 use Rattle.scsi_target.specs.Views.{device_of, IsDevice}
 use Rattle.scsi_target.specs.declared.link.Link.TheVariants as held
-use Rattle.scsi_target.proofs.Parted.{where_false}
+use Rattle.target_law.proofs.Rooms.{where_false}
 use Rattle.scsi_target.proofs.Resets.{with_can, with_state, with_busy, device_reset}
 use Rattle.scsi_target.proofs.resetting.reset_with.Goals as goal
 

@@ -6,7 +6,7 @@ use Rattle.scsi_target.proofs.Places.{there_in, back_in, is_unit, not_none, in_r
 use Rattle.scsi_target.proofs.device.Device.can_reselect.Goals as goal
 
 pub index-requires : goal.index-requires
-index-requires c = let t = there_in _ _ _ c.self.view_is c.args.lun _ c.requires in in_range _ _ _ _ c.args.lun t.0 c.self.invariant t.1
+index-requires c = let t = there_in _ _ _ c.self.view_is c.args.lun _ c.requires in in_range _ _ _ _ c.args.lun t.0 c.self.invariant.device t.1
 
 pub unreachable-requires : goal.unreachable-requires
 unreachable-requires c = let t = there_in _ _ _ c.self.view_is c.args.lun _ c.requires in not_none _ c.args.lun t.0 _ t.1 c.index.ensures c.in-None.is

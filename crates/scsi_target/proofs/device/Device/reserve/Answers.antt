@@ -3,16 +3,18 @@ use Rattle.std.specs.Prelude.{slice_get}
 use Rattle.target_law.specs.Lawful.{IsThere}
 use Rattle.target_law.specs.Target.{LogicalUnit, unit_at}
 use Rattle.unit_tasks.specs.declared.queued.QueuedUnit.{QueuedUnit}
+use Rattle.unit_tasks.specs.Units.{unit_of}
 use Rattle.unit_log.specs.Journal.{Journal}
 use Rattle.scsi_target.specs.Slots.{room_of, slot_of}
 use Rattle.scsi_target.specs.Views.{IsSlot, device_of, link_of}
-use Rattle.scsi_target.specs.Devices.{DeviceState}
-use Rattle.scsi_target.proofs.Places.{room_set, room_other, room_more, room_there, there_in, back_in, read_unit, not_none, in_range, within, units_stay, rooms_stay}
+use Rattle.target_law.specs.Devices.{DeviceState, device_reserved}
+use Rattle.scsi_target.proofs.Places.{room_there, there_in, back_in, read_unit, not_none, in_range, within, units_stay, rooms_stay, reserved_is}
 use Rattle.scsi_target.proofs.Devices.{device_set, linked_by, connected_log}
+use Rattle.scsi_target.proofs.Tagging.{same_units}
 use Rattle.scsi_target.proofs.device.Device.reserve.Goals as goal
 
 pub index_mut-requires : goal.index_mut-requires
-index_mut-requires c = let t = there_in _ _ _ c.self.view_is c.args.lun _ c.requires in in_range _ _ _ _ c.args.lun t.0 c.self.invariant t.1
+index_mut-requires c = let t = there_in _ _ _ c.self.view_is c.args.lun _ c.requires in in_range _ _ _ _ c.args.lun t.0 c.self.invariant.device t.1
 
 pub unreachable-requires : goal.unreachable-requires
 unreachable-requires c = let t = there_in _ _ _ c.self.view_is c.args.lun _ c.requires in not_none _ c.args.lun t.0 _ t.1 c.index_mut.ensures.value c.in-None.is
@@ -24,7 +26,7 @@ abbrev after : goal.After-self-1 → QueuedUnit
 after c = record { rig = c.in-Some.unit.rig; core = record { lun = c.in-Some.unit.core.lun; log = c.reserve.new.self }; tasks = c.in-Some.unit.tasks }
 
 slot_after : (c : goal.After-self-1) → IsSlot c.self.inside.rogue c.self.inside.link c.args.lun (after c)
-slot_after c = let i = c.self.invariant.slots_are c.args.lun c.in-Some.unit (place c) in record {
+slot_after c = let i = c.self.invariant.device.slots_are c.args.lun c.in-Some.unit (place c) in record {
   lun = i.lun;
   unit = i.unit;
   rogue = i.rogue;
@@ -34,50 +36,34 @@ slot_after c = let i = c.self.invariant.slots_are c.args.lun c.in-Some.unit (pla
   log = let a = i.log in let b = c.reserve.ensures.room in let e = ap length c.reserve.ensures.entries in omega arith;
 }
 
+-- the log has the same entries, and so the unit is the same
+same_unit : (c : goal.After-self-1) → unit_of (after c) ≡ unit_of c.in-Some.unit
+same_unit c = ap (λ log. record { rig = c.in-Some.unit.rig; plain = c.in-Some.unit.core.lun; log = log; tasks = c.in-Some.unit.tasks.tasks }) c.reserve.ensures.entries
+
 pub invariant_of-self : goal.invariant_of-self
-invariant_of-self c =
-    device_set _ _ _ _ _ c.args.lun (after c) c.self.invariant (within _ c.args.lun c.in-Some.unit (place c)) (slot_after c) (λ k d. refl)
-    (linked_by _ _ _ c.args.lun c.in-Some.unit (after c) (place c) c.self.invariant.linked (λ x h. connected_log c.self.inside.rogue x c.in-Some.unit c.reserve.new.self c.reserve.ensures.entries h))
-
-pub returns-clause-target : goal.returns-clause-target
-returns-clause-target c =
-    let same = ap (λ log. record { rig = c.in-Some.unit.rig; plain = c.in-Some.unit.core.lun; log = log; tasks = c.in-Some.unit.tasks.tasks }) c.reserve.ensures.entries in
-    ap (λ (us : List (Option LogicalUnit)). record { units = us; link = link_of c.self.inside.link }) (units_stay _ c.args.lun c.in-Some.unit (after c) (place c) same) ∙ ap (λ (d : DeviceState). d.target) c.self.view_is
-
-room_after : (c : goal.After-self-1) → length c.reserve.new.self.entries + c.args.n ≤ c.reserve.new.self.room → length c.in-Some.unit.core.log.entries + c.args.n ≤ slice_index_or (map room_of (slice_set c.self.inside.units.items c.args.lun (Some (after c)))) c.args.lun 0
-room_after c h = let e = ap length c.reserve.ensures.entries in rw (room_set c.self.inside.units.items c.args.lun (after c) (within _ c.args.lun c.in-Some.unit (place c))) omega arith
-
-on_ok : {T E P Q : Type 0} (r : Result T E) → (P → Q) → OnOk r P → OnOk r Q
-on_ok (Ok v) f h = f h
-on_ok (Err e) f h = tt
-
-room_back : (c : goal.After-self-1) → length c.reserve.new.self.entries + c.args.n ≤ c.reserve.new.self.room → IsThere (unit_at c.args.self.now.target.units c.args.lun) (λ u. length u.log + c.args.n ≤ slice_index_or (map room_of (slice_set c.self.inside.units.items c.args.lun (Some (after c)))) c.args.lun 0)
-room_back c h = back_in _ _ _ c.self.view_is c.args.lun (λ (u : LogicalUnit). length u.log + c.args.n ≤ slice_index_or (map room_of (slice_set c.self.inside.units.items c.args.lun (Some (after c)))) c.args.lun 0) c.in-Some.unit (place c) (room_after c h)
-
-pub returns-clause-spare : goal.returns-clause-spare
-returns-clause-spare c = on_ok c.reserve.result (room_back c) c.reserve.ensures.ok
-
-pub returns-clause-rooms : goal.returns-clause-rooms
-returns-clause-rooms c = λ k. subst (λ (d : DeviceState). slice_index_or d.rooms k 0 ≤ slice_index_or (map room_of (slice_set c.self.inside.units.items c.args.lun (Some (after c)))) k 0) c.self.view_is (room_more c.self.inside.units.items c.args.lun k c.in-Some.unit (after c) (place c) c.reserve.ensures.room)
-
-pub returns-clause-others : goal.returns-clause-others
-returns-clause-others c = λ k d. room_other c.self.inside.units.items c.args.lun k (after c) d ∙ ap (λ (x : DeviceState). slice_index_or x.rooms k 0) c.self.view_is
+invariant_of-self c = record {
+  device =
+      device_set _ _ _ _ _ c.args.lun (after c) c.self.invariant.device (within _ c.args.lun c.in-Some.unit (place c)) (slot_after c) (λ k d. refl)
+      (linked_by _ _ _ c.args.lun c.in-Some.unit (after c) (place c) c.self.invariant.device.linked (λ x h. connected_log c.self.inside.rogue x c.in-Some.unit c.reserve.new.self c.reserve.ensures.entries h));
+  tags = same_units c.self.inside.units.items _ c.self.inside.link (units_stay _ c.args.lun c.in-Some.unit (after c) (place c) (same_unit c)) c.self.invariant.tags;
+}
 
 -- the room of the unit's log before
 old_room : (c : goal.After-self-1) → c.in-Some.unit.core.log.room ≡ slice_index_or c.args.self.now.rooms c.args.lun 0
 old_room c = sym (room_there c.self.inside.units.items c.args.lun c.in-Some.unit (place c)) ∙ ap (λ (d : DeviceState). slice_index_or d.rooms c.args.lun 0) c.self.view_is
 
-exact_at : (c : goal.After-self-1) → c.reserve.new.self.room ≡ max c.in-Some.unit.core.log.room (length c.in-Some.unit.core.log.entries + c.args.n)
-    → slice_index_or (map room_of (slice_set c.self.inside.units.items c.args.lun (Some (after c)))) c.args.lun 0 ≡ max (slice_index_or c.args.self.now.rooms c.args.lun 0) (length c.in-Some.unit.core.log.entries + c.args.n)
-exact_at c h =
-    room_set c.self.inside.units.items c.args.lun (after c) (within _ c.args.lun c.in-Some.unit (place c)) ∙ h ∙ ap (λ room. max room (length c.in-Some.unit.core.log.entries + c.args.n)) (old_room c)
+-- the unit's log has the same entries, and room for n more
+reserved : (c : goal.After-self-1) → c.reserve.new.self.room ≡ max c.in-Some.unit.core.log.room (length c.in-Some.unit.core.log.entries + c.args.n)
+    → device_of (slice_set c.self.inside.units.items c.args.lun (Some (after c))) c.self.inside.link ≡ device_reserved c.args.self.now c.args.lun c.args.n
+reserved c h =
+    reserved_is c.self.inside.units.items c.self.inside.link c.args.lun c.args.n c.in-Some.unit (after c) (place c) (same_unit c) h ∙ ap (λ (d : DeviceState). device_reserved d c.args.lun c.args.n) c.self.view_is
 
-exact_back : (c : goal.After-self-1) → c.reserve.new.self.room ≡ max c.in-Some.unit.core.log.room (length c.in-Some.unit.core.log.entries + c.args.n)
-    → IsThere (unit_at c.args.self.now.target.units c.args.lun) (λ u. slice_index_or (map room_of (slice_set c.self.inside.units.items c.args.lun (Some (after c)))) c.args.lun 0 ≡ max (slice_index_or c.args.self.now.rooms c.args.lun 0) (length u.log + c.args.n))
-exact_back c h = back_in _ _ _ c.self.view_is c.args.lun (λ (u : LogicalUnit). slice_index_or (map room_of (slice_set c.self.inside.units.items c.args.lun (Some (after c)))) c.args.lun 0 ≡ max (slice_index_or c.args.self.now.rooms c.args.lun 0) (length u.log + c.args.n)) c.in-Some.unit (place c) (exact_at c h)
+on_ok : {T E P Q : Type 0} (r : Result T E) → (P → Q) → OnOk r P → OnOk r Q
+on_ok (Ok v) f h = f h
+on_ok (Err e) f h = tt
 
-pub returns-clause-exact : goal.returns-clause-exact
-returns-clause-exact c = on_ok c.reserve.result (exact_back c) c.reserve.ensures.exact
+pub returns-clause-ok : goal.returns-clause-ok
+returns-clause-ok c = on_ok c.reserve.result (reserved c) c.reserve.ensures.exact
 
 on_err : {T E P Q : Type 0} (r : Result T E) → (P → Q) → OnErr r P → OnErr r Q
 on_err (Ok v) f h = tt

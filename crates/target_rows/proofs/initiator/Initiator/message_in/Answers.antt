@@ -1,8 +1,8 @@
 use Rattle.std.proofs.Common.{◌∙◌, sym, subst, refl}
 use Rattle.target_law.specs.Target.{linked}
 use Rattle.target_law.specs.Calls.{link_byte, sent_if, WaitsForAck, target_acked}
-use Rattle.scsi_target.specs.Devices.{DeviceState}
-use Rattle.target_rows.proofs.Rigs.{acked-same}
+use Rattle.target_law.specs.Devices.{DeviceState}
+use Rattle.target_law.proofs.Rigs.{rigs-acked}
 use Rattle.target_rows.proofs.Holding.{waits-after, is-in, held-by, held-where}
 use Rattle.target_rows.proofs.initiator.Initiator.message_in.Goals as goal
 
@@ -16,4 +16,4 @@ pub invariant_of-self : goal.invariant_of-self
 invariant_of-self c =
     held-where c.byte_in-byte.new.self c.end_ack.new.self (target_acked c.byte_in-byte.new.self.target) c.self.inside.unit
     (held-by c.self.inside.device c.byte_in-byte.new.self (linked c.self.inside.device.target (sent_if (link_byte c.self.inside.device.target.link) c.self.inside.device.target.link)) c.self.inside.unit c.self.invariant refl c.byte_in-byte.ensures.state)
-    (acked-same c.byte_in-byte.new.self.target) c.end_ack.ensures
+    (rigs-acked c.byte_in-byte.new.self.target) c.end_ack.ensures

@@ -1,6 +1,6 @@
 use Rattle.std.proofs.Common.{ap}
-use Rattle.scsi_target.specs.Devices.{DeviceState}
-use Rattle.target_rows.proofs.Holding.{unit-there, held-opened, held-target, opened-room}
+use Rattle.target_law.specs.Devices.{DeviceState}
+use Rattle.target_rows.proofs.Holding.{unit-there, held-opened, opened-target, opened-room}
 use Rattle.target_rows.proofs.initiator.Initiator.open.Goals as goal
 
 pub reserve-requires : goal.reserve-requires
@@ -8,11 +8,12 @@ reserve-requires c =
     unit-there c.in_ok-device.device.target.units c.args.unit.now
     (held-opened c.in_ok-device.device c.args.unit.now c.requires (ap (λ (d : DeviceState). d.target) c.in_ok-device.ensures))
 
+pub returns-clause-target : goal.returns-clause-target
+returns-clause-target c = opened-target c.args.unit.now c.args.room c.in_ok-device.device c.reserve.new.self c.in_ok-device.ensures c.in_ok-reserve.ensures.ok
+
 pub invariant_of-result : goal.invariant_of-result
 invariant_of-result c =
-    held-target c.in_ok-device.device c.reserve.new.self c.args.unit.now
-    (held-opened c.in_ok-device.device c.args.unit.now c.requires (ap (λ (d : DeviceState). d.target) c.in_ok-device.ensures)) c.reserve.ensures.target
+    held-opened c.reserve.new.self c.args.unit.now c.requires (opened-target c.args.unit.now c.args.room c.in_ok-device.device c.reserve.new.self c.in_ok-device.ensures c.in_ok-reserve.ensures.ok)
 
 pub returns-clause-room : goal.returns-clause-room
-returns-clause-room c =
-    opened-room c.args.unit.now c.args.room c.in_ok-device.device c.reserve.new.self c.requires.lun c.in_ok-device.ensures c.in_ok-reserve.ensures.exact
+returns-clause-room c = opened-room c.args.unit.now c.args.room c.in_ok-device.device c.reserve.new.self c.requires.lun c.in_ok-device.ensures c.in_ok-reserve.ensures.ok

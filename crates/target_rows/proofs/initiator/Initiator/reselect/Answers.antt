@@ -1,6 +1,6 @@
 use Rattle.target_law.specs.Calls.{target_reselected}
-use Rattle.target_rows.proofs.Rigs.{reselected-same}
-use Rattle.target_rows.proofs.Holding.{unit-there, none-absent, held-by, stays-connected, stays-without}
+use Rattle.target_law.proofs.Rigs.{rigs-reselected}
+use Rattle.target_rows.proofs.Holding.{unit-there, present-is, held-by, stays-connected, stays-without}
 use Rattle.target_rows.proofs.initiator.Initiator.reselect.Goals.{then-connected-via-then-connected, then-connected-via-else-connected+then-n-can_reselect}
 use Rattle.target_rows.proofs.initiator.Initiator.reselect.Goals as goal
 
@@ -14,9 +14,9 @@ returns-then-connected-clause-reselects c = elim c.then-connected.branch [
 ]
 
 pub reselect-requires-clause-present : goal.reselect-requires-clause-present
-reselect-requires-clause-present c = none-absent c.self.inside.device.target.units c.self.inside.unit c.self.invariant
+reselect-requires-clause-present c = present-is c.self.inside.device.target c.self.inside.unit c.self.invariant
 
 pub invariant_of-self : goal.invariant_of-self
 invariant_of-self c =
     held-by c.self.inside.device c.reselect.new.self (target_reselected c.self.inside.device.target c.self.inside.unit.lun c.args.n c.args.tag) c.self.inside.unit c.self.invariant
-    (reselected-same c.self.inside.device.target c.self.inside.unit.lun c.args.n c.args.tag) c.reselect.ensures
+    (rigs-reselected c.self.inside.device.target c.self.inside.unit.lun c.args.n c.args.tag) c.reselect.ensures

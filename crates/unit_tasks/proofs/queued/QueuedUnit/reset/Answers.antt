@@ -7,7 +7,8 @@ use Rattle.unit_tasks.specs.declared.queued.QueuedUnit.{QueuedUnit}
 use Rattle.unit_tasks.specs.Queue.{Queue}
 use Rattle.unit_tasks.specs.Units.{unit_of, holding}
 use Rattle.unit_tasks.specs.Resets.{core_drops, core_cleared, drop_entries, can_reset}
-use Rattle.unit_tasks.proofs.Drops.{logged, core_of, fold-core_drops, rig-drops}
+use Rattle.target_law.proofs.Rigs.{rig-drops}
+use Rattle.unit_tasks.proofs.Drops.{logged, core_of, fold-core_drops}
 use Rattle.unit_tasks.proofs.queued.QueuedUnit.reset.Goals as goal
 
 -- the unit is cleared after the drops of all its tasks
