@@ -96,6 +96,31 @@ bytes-from_narrow r f = record { below = λ p. byte-below p r f }
 
 -- ---- after a write
 
+-- a byte in one register
+pub narrow-scntl0 : (r : Regs) (b : ℕ) → IsNarrow r → b < 256 → IsNarrow (record r { scntl0 = b })
+narrow-scntl0 r b f h = record { are = record { scntl0_fits = h; scntl1_fits = f.are.scntl1_fits; scntl3_fits = f.are.scntl3_fits; sxfer_fits = f.are.sxfer_fits; sdid_fits = f.are.sdid_fits; sfbr_fits = f.are.sfbr_fits; ssid_fits = f.are.ssid_fits; dcmd_fits = f.are.dcmd_fits } }
+
+pub narrow-scntl1 : (r : Regs) (b : ℕ) → IsNarrow r → b < 256 → IsNarrow (record r { scntl1 = b })
+narrow-scntl1 r b f h = record { are = record { scntl0_fits = f.are.scntl0_fits; scntl1_fits = h; scntl3_fits = f.are.scntl3_fits; sxfer_fits = f.are.sxfer_fits; sdid_fits = f.are.sdid_fits; sfbr_fits = f.are.sfbr_fits; ssid_fits = f.are.ssid_fits; dcmd_fits = f.are.dcmd_fits } }
+
+pub narrow-scntl3 : (r : Regs) (b : ℕ) → IsNarrow r → b < 256 → IsNarrow (record r { scntl3 = b })
+narrow-scntl3 r b f h = record { are = record { scntl0_fits = f.are.scntl0_fits; scntl1_fits = f.are.scntl1_fits; scntl3_fits = h; sxfer_fits = f.are.sxfer_fits; sdid_fits = f.are.sdid_fits; sfbr_fits = f.are.sfbr_fits; ssid_fits = f.are.ssid_fits; dcmd_fits = f.are.dcmd_fits } }
+
+pub narrow-sxfer : (r : Regs) (b : ℕ) → IsNarrow r → b < 256 → IsNarrow (record r { sxfer = b })
+narrow-sxfer r b f h = record { are = record { scntl0_fits = f.are.scntl0_fits; scntl1_fits = f.are.scntl1_fits; scntl3_fits = f.are.scntl3_fits; sxfer_fits = h; sdid_fits = f.are.sdid_fits; sfbr_fits = f.are.sfbr_fits; ssid_fits = f.are.ssid_fits; dcmd_fits = f.are.dcmd_fits } }
+
+pub narrow-sdid : (r : Regs) (b : ℕ) → IsNarrow r → b < 256 → IsNarrow (record r { sdid = b })
+narrow-sdid r b f h = record { are = record { scntl0_fits = f.are.scntl0_fits; scntl1_fits = f.are.scntl1_fits; scntl3_fits = f.are.scntl3_fits; sxfer_fits = f.are.sxfer_fits; sdid_fits = h; sfbr_fits = f.are.sfbr_fits; ssid_fits = f.are.ssid_fits; dcmd_fits = f.are.dcmd_fits } }
+
+pub narrow-sfbr : (r : Regs) (b : ℕ) → IsNarrow r → b < 256 → IsNarrow (record r { sfbr = b })
+narrow-sfbr r b f h = record { are = record { scntl0_fits = f.are.scntl0_fits; scntl1_fits = f.are.scntl1_fits; scntl3_fits = f.are.scntl3_fits; sxfer_fits = f.are.sxfer_fits; sdid_fits = f.are.sdid_fits; sfbr_fits = h; ssid_fits = f.are.ssid_fits; dcmd_fits = f.are.dcmd_fits } }
+
+pub narrow-ssid : (r : Regs) (b : ℕ) → IsNarrow r → b < 256 → IsNarrow (record r { ssid = b })
+narrow-ssid r b f h = record { are = record { scntl0_fits = f.are.scntl0_fits; scntl1_fits = f.are.scntl1_fits; scntl3_fits = f.are.scntl3_fits; sxfer_fits = f.are.sxfer_fits; sdid_fits = f.are.sdid_fits; sfbr_fits = f.are.sfbr_fits; ssid_fits = h; dcmd_fits = f.are.dcmd_fits } }
+
+pub narrow-dcmd : (r : Regs) (b : ℕ) → IsNarrow r → b < 256 → IsNarrow (record r { dcmd = b })
+narrow-dcmd r b f h = record { are = record { scntl0_fits = f.are.scntl0_fits; scntl1_fits = f.are.scntl1_fits; scntl3_fits = f.are.scntl3_fits; sxfer_fits = f.are.sxfer_fits; sdid_fits = f.are.sdid_fits; sfbr_fits = f.are.sfbr_fits; ssid_fits = f.are.ssid_fits; dcmd_fits = h } }
+
 or_other : (b : Bool) (x y : Regs) → IsNarrow x → IsNarrow y → IsNarrow (if b then x else y)
 or_other true x y h k = h
 or_other false x y h k = k
@@ -103,18 +128,18 @@ or_other false x y h k = k
 pub narrow-written : (p b : ℕ) (r : Regs) → IsNarrow r → b < 256 → IsNarrow (written p b r)
 unfolding written
 narrow-written p b r f h =
-    or_other (nat_eq p 0x00) _ _ (record { are = record { scntl0_fits = h; scntl1_fits = f.are.scntl1_fits; scntl3_fits = f.are.scntl3_fits; sxfer_fits = f.are.sxfer_fits; sdid_fits = f.are.sdid_fits; sfbr_fits = f.are.sfbr_fits; ssid_fits = f.are.ssid_fits; dcmd_fits = f.are.dcmd_fits } }) (
-    or_other (nat_eq p 0x01) _ _ (record { are = record { scntl0_fits = f.are.scntl0_fits; scntl1_fits = h; scntl3_fits = f.are.scntl3_fits; sxfer_fits = f.are.sxfer_fits; sdid_fits = f.are.sdid_fits; sfbr_fits = f.are.sfbr_fits; ssid_fits = f.are.ssid_fits; dcmd_fits = f.are.dcmd_fits } }) (
-    or_other (nat_eq p 0x03) _ _ (record { are = record { scntl0_fits = f.are.scntl0_fits; scntl1_fits = f.are.scntl1_fits; scntl3_fits = h; sxfer_fits = f.are.sxfer_fits; sdid_fits = f.are.sdid_fits; sfbr_fits = f.are.sfbr_fits; ssid_fits = f.are.ssid_fits; dcmd_fits = f.are.dcmd_fits } }) (
-    or_other (nat_eq p 0x05) _ _ (record { are = record { scntl0_fits = f.are.scntl0_fits; scntl1_fits = f.are.scntl1_fits; scntl3_fits = f.are.scntl3_fits; sxfer_fits = h; sdid_fits = f.are.sdid_fits; sfbr_fits = f.are.sfbr_fits; ssid_fits = f.are.ssid_fits; dcmd_fits = f.are.dcmd_fits } }) (
-    or_other (nat_eq p 0x06) _ _ (record { are = record { scntl0_fits = f.are.scntl0_fits; scntl1_fits = f.are.scntl1_fits; scntl3_fits = f.are.scntl3_fits; sxfer_fits = f.are.sxfer_fits; sdid_fits = h; sfbr_fits = f.are.sfbr_fits; ssid_fits = f.are.ssid_fits; dcmd_fits = f.are.dcmd_fits } }) (
-    or_other (nat_eq p 0x08) _ _ (record { are = record { scntl0_fits = f.are.scntl0_fits; scntl1_fits = f.are.scntl1_fits; scntl3_fits = f.are.scntl3_fits; sxfer_fits = f.are.sxfer_fits; sdid_fits = f.are.sdid_fits; sfbr_fits = h; ssid_fits = f.are.ssid_fits; dcmd_fits = f.are.dcmd_fits } }) (
-    or_other (nat_eq p 0x0a) _ _ (record { are = record { scntl0_fits = f.are.scntl0_fits; scntl1_fits = f.are.scntl1_fits; scntl3_fits = f.are.scntl3_fits; sxfer_fits = f.are.sxfer_fits; sdid_fits = f.are.sdid_fits; sfbr_fits = f.are.sfbr_fits; ssid_fits = h; dcmd_fits = f.are.dcmd_fits } }) (
+    or_other (nat_eq p 0x00) _ _ (narrow-scntl0 r b f h) (
+    or_other (nat_eq p 0x01) _ _ (narrow-scntl1 r b f h) (
+    or_other (nat_eq p 0x03) _ _ (narrow-scntl3 r b f h) (
+    or_other (nat_eq p 0x05) _ _ (narrow-sxfer r b f h) (
+    or_other (nat_eq p 0x06) _ _ (narrow-sdid r b f h) (
+    or_other (nat_eq p 0x08) _ _ (narrow-sfbr r b f h) (
+    or_other (nat_eq p 0x0a) _ _ (narrow-ssid r b f h) (
     or_other (nat_eq p 0x0c) _ _ (record { are = f.are }) (
     or_other (within 0x10 p) _ _ (record { are = f.are }) (
     or_other (nat_eq p 0x14) _ _ (record { are = f.are }) (
     or_other (within 0x1c p) _ _ (record { are = f.are }) (
-    or_other (nat_eq p 0x27) _ _ (record { are = record { scntl0_fits = f.are.scntl0_fits; scntl1_fits = f.are.scntl1_fits; scntl3_fits = f.are.scntl3_fits; sxfer_fits = f.are.sxfer_fits; sdid_fits = f.are.sdid_fits; sfbr_fits = f.are.sfbr_fits; ssid_fits = f.are.ssid_fits; dcmd_fits = h } }) (
+    or_other (nat_eq p 0x27) _ _ (narrow-dcmd r b f h) (
     or_other (within 0x24 p) _ _ (record { are = f.are }) (
     or_other (within 0x28 p) _ _ (record { are = f.are }) (
     or_other (within 0x2c p) _ _ (record { are = f.are }) (

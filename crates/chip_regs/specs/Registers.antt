@@ -1,4 +1,4 @@
--- The register file: its places, the byte at each, and what stops the chip. Places and bits are those of the Symbios
+-- The register file: its places, the byte at each, and what stops the chip. Places and bits follow the Symbios
 -- SYM53C810A. That a bit without a name reads 0 and isn't kept, and that reads and writes but that of CTEST2 have no
 -- further effect, is own.
 use Rattle.std.specs.Prelude.{ℕ, ◌+◌, ◌-◌, ◌/◌, ◌%◌, Bool, true, false, nat_eq, nat_le, ◌&&◌, ◌||◌, if◌then◌else◌, List, [], ◌∷◌, Option, slice_index, slice_set}

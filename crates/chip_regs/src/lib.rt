@@ -1,4 +1,4 @@
-//! The registers of the chip, after those of the SYM53C810A: each by its name and by its place, the bits that stop
+//! The registers of the chip, after the SYM53C810A: each by its name and by its place, the bits that stop
 //! the chip, and the cause for which it is stopped.
 //!
 //! No call here takes memory.

@@ -14,7 +14,7 @@ use Rattle.scripts_ops.specs.declared.values.Change.{Change}
 use Rattle.scripts_ops.specs.declared.values.Change.TheVariants.{Or, And, Add}
 use Rattle.scripts_ops.specs.declared.values.Condition.{Condition}
 use Rattle.chip_regs.specs.Registers.{byte_at, written, after_read}
-use Rattle.chip_regs.proofs.Bytes.{IsNarrow, narrow-from_bytes, bytes-from_narrow, narrow-written, narrow-after_read, narrow-stop}
+use Rattle.chip_regs.proofs.Bytes.{IsNarrow, narrow-from_bytes, bytes-from_narrow, narrow-scntl3, narrow-sxfer, narrow-sdid, narrow-sfbr, narrow-ssid, narrow-dcmd, narrow-written, narrow-after_read, narrow-stop}
 use Rattle.chip_regs.specs.declared.registers.Regs.{Regs}
 use Rattle.chip_regs.specs.declared.registers.Cause.{Cause}
 use Rattle.chip_regs.specs.declared.registers.Cause.TheVariants.{Sir, Ma, Udc, Sto}
@@ -49,69 +49,17 @@ one_of : (b : Bool) (x y : ℕ) → x < 256 → y < 256 → (if b then x else y)
 one_of true x y h k = h
 one_of false x y h k = k
 
-with_sfbr : (r : Regs) (b : ℕ) → IsNarrow r → b < 256 → IsNarrow (record r { sfbr = b })
-with_sfbr r b f h = record {
-  are = record {
-    scntl0_fits = f.are.scntl0_fits;
-    scntl1_fits = f.are.scntl1_fits;
-    scntl3_fits = f.are.scntl3_fits;
-    sxfer_fits = f.are.sxfer_fits;
-    sdid_fits = f.are.sdid_fits;
-    sfbr_fits = h;
-    ssid_fits = f.are.ssid_fits;
-    dcmd_fits = f.are.dcmd_fits;
-  };
-}
-
-with_ssid : (r : Regs) (b : ℕ) → IsNarrow r → b < 256 → IsNarrow (record r { ssid = b })
-with_ssid r b f h = record {
-  are = record {
-    scntl0_fits = f.are.scntl0_fits;
-    scntl1_fits = f.are.scntl1_fits;
-    scntl3_fits = f.are.scntl3_fits;
-    sxfer_fits = f.are.sxfer_fits;
-    sdid_fits = f.are.sdid_fits;
-    sfbr_fits = f.are.sfbr_fits;
-    ssid_fits = h;
-    dcmd_fits = f.are.dcmd_fits;
-  };
-}
-
-with_dcmd : (r : Regs) (b : ℕ) → IsNarrow r → b < 256 → IsNarrow (record r { dcmd = b })
-with_dcmd r b f h = record {
-  are = record {
-    scntl0_fits = f.are.scntl0_fits;
-    scntl1_fits = f.are.scntl1_fits;
-    scntl3_fits = f.are.scntl3_fits;
-    sxfer_fits = f.are.sxfer_fits;
-    sdid_fits = f.are.sdid_fits;
-    sfbr_fits = f.are.sfbr_fits;
-    ssid_fits = f.are.ssid_fits;
-    dcmd_fits = h;
-  };
-}
-
 table_fits : (w : ℕ) (r : Regs) → IsNarrow r → w < 2 ^ 32 → IsNarrow (with_table w r)
-table_fits w r f h = record {
-  are = record {
-    scntl0_fits = f.are.scntl0_fits;
-    scntl1_fits = f.are.scntl1_fits;
-    scntl3_fits = omega arith;
-    sxfer_fits = omega arith;
-    sdid_fits = omega arith;
-    sfbr_fits = f.are.sfbr_fits;
-    ssid_fits = f.are.ssid_fits;
-    dcmd_fits = f.are.dcmd_fits;
-  };
-}
+table_fits w r f h =
+    record { are = (narrow-sxfer (record r { scntl3 = w / 16777216; sdid = w / 65536 % 256 }) (w / 256 % 256) (narrow-sdid (record r { scntl3 = w / 16777216 }) (w / 65536 % 256) (narrow-scntl3 r (w / 16777216) f (omega arith)) (omega arith)) (omega arith)).are }
 
 reselected_fits : (by : ℕ) (r : Regs) → IsNarrow r → by < 8 → IsNarrow (reselected_by by r)
-reselected_fits by r f h = record { are = (with_ssid r (128 + by) f (omega arith)).are }
+reselected_fits by r f h = record { are = (narrow-ssid r (128 + by) f (omega arith)).are }
 
 moved_fits : (phase left : ℕ) (m : List ℕ) (r : Regs) → IsNarrow r → IsBytes m → IsNarrow (after_bytes phase left m r)
 moved_fits phase left m r f h =
     let b : (if (nat_eq phase 7 || nat_eq phase 3) && nat_lt left r.dbc then slice_index m r.dnad else r.sfbr) < 256 = one_of ((nat_eq phase 7 || nat_eq phase 3) && nat_lt left r.dbc) (slice_index m r.dnad) r.sfbr (h.below r.dnad) f.are.sfbr_fits in
-    record { are = (with_sfbr r _ f b).are }
+    record { are = (narrow-sfbr r _ f b).are }
 
 changed_fits : (c : Change) (a b : ℕ) → a < 256 → b < 256 → changed c a b < 256
 changed_fits Or a b h k = or_of_8 a b h k
@@ -219,7 +167,7 @@ module _ {B : Type 0} (moves : B → Event → B → Type 0) (fit : AnswersFit m
   does word (op.Clear ack atn) before old end new f b g h = ends _ _ _ end new g.memory g.regs h.ends
   does word (op.FromSfbr c d r) before old end new f b g h = becomes _ old end new g.memory (narrow-written r (changed c old.regs.sfbr d) old.regs g.regs (changed_fits c old.regs.sfbr d g.regs.are.sfbr_fits f.2)) h
   does word (op.ToSfbr r c d) before old end new f b g h =
-      becomes _ old end new g.memory (with_sfbr (after_read r old.regs) (changed c (byte_at r old.regs) d) (narrow-after_read r old.regs g.regs) (changed_fits c (byte_at r old.regs) d ((bytes-from_narrow old.regs g.regs).below r) f.1)) h
+      becomes _ old end new g.memory (narrow-sfbr (after_read r old.regs) (changed c (byte_at r old.regs) d) (narrow-after_read r old.regs g.regs) (changed_fits c (byte_at r old.regs) d ((bytes-from_narrow old.regs g.regs).below r) f.1)) h
   does word (op.Modify r c d) before old end new f b g h =
       becomes _ old end new g.memory (narrow-written r (changed c (byte_at r old.regs) d) old.regs g.regs (changed_fits c (byte_at r old.regs) d ((bytes-from_narrow old.regs g.regs).below r) f.2)) h
   does word (op.Put d r) before old end new f b g h = becomes _ old end new g.memory (narrow-written r d old.regs g.regs f.1) h
@@ -239,7 +187,7 @@ module _ {B : Type 0} (moves : B → Event → B → Type 0) (fit : AnswersFit m
   fetched_good : (old : Chip B) → Good old → Good (after_fetch old)
   fetched_good old g =
       let w : word_at old.memory old.regs.dsp < 2 ^ 32 = word_at-below old.memory old.regs.dsp g.memory in
-      record { memory = g.memory; regs = record { are = (with_dcmd old.regs (word_at old.memory old.regs.dsp / 16777216) g.regs (omega arith)).are } }
+      record { memory = g.memory; regs = record { are = (narrow-dcmd old.regs (word_at old.memory old.regs.dsp / 16777216) g.regs (omega arith)).are } }
 
   ran_good : (word : ℕ) (old : Chip B) (end : StepEnd) (new : Chip B) → Good old → Ran moves word old end new → Good new
   ran_good word old end new g (ran.idle s e n) = subst (λ (c : Chip B). Good c) (sym n) g

@@ -30,22 +30,22 @@ use Rattle.chip_step.specs.declared.outcome.StepEnd.{StepEnd}
 use Rattle.chip_step.specs.declared.outcome.StepEnd.TheVariants as ends
 use Rattle.chip_step.proofs.Made.{one_spelling, Ran-does}
 use Rattle.chip_rows.specs.Touched.{Range, IsIn, Block, block_of, entry_of, came, is_in, range, range_at, of_block, writes}
-use Rattle.chip_rows.specs.Leaving.{ChangesWithin, WritesWithin, NoRowWrites, StopsLeaveMemory, RunsOn, IsCounted, CountsDown}
+use Rattle.chip_rows.specs.Leaving.{ChangesWithin, KeepsSize, WritesWithin, NoRowWrites, StopsLeaveMemory, RunsOn, IsCounted, CountsDown}
 
-by : (b : Bool) {C X Y : Type 0} → (X → C) → (Y → C) → MatchBool b X Y → C
+pub by : (b : Bool) {C X Y : Type 0} → (X → C) → (Y → C) → MatchBool b X Y → C
 by true f g h = f h
 by false f g h = g h
 
 -- ---- memory outside a range
 
-record Other (from len : ℕ) (old new : List ℕ) : Type 0 where
-  size : length new ≡ length old
-  same : (x : ℕ) → (x < from) ⊎ (from + len ≤ x) → get_or new x 0 ≡ get_or old x 0
+pub record Other (from len : ℕ) (old new : List ℕ) : Type 0 where
+  pub size : length new ≡ length old
+  pub same : (x : ℕ) → (x < from) ⊎ (from + len ≤ x) → get_or new x 0 ≡ get_or old x 0
 
 same_memory : (ranges : List Range) (old new : List ℕ) → new ≡ old → ChangesWithin ranges old new
 same_memory ranges old new e = record { size = ap length e; others = λ x h. ap (λ (m : List ℕ). get_or m x 0) e }
 
-below_or_in : (x from len : ℕ) → (x < from) ⊎ (from + len ≤ x) ⊎ ((from ≤ x) × (x < from + len))
+pub below_or_in : (x from len : ℕ) → (x < from) ⊎ (from + len ≤ x) ⊎ ((from ≤ x) × (x < from + len))
 below_or_in x from len = grind arith
 
 out_of : (x from len : ℕ) → (IsIn (range from len) x → ⊥) → (x < from) ⊎ (from + len ≤ x)
@@ -67,17 +67,17 @@ one_more from len b m m' o = record {
   same = λ x h. let ne : x ≢ from = grind arith in o.same x (later x from len h) ∙ get_or-set_other m from x b 0 ne;
 }
 
-stored_other : (n r : ℕ) (m : List ℕ) (a : ℕ) (regs : Regs) → Other a n m (stored n r m a regs)
+pub stored_other : (n r : ℕ) (m : List ℕ) (a : ℕ) (regs : Regs) → Other a n m (stored n r m a regs)
 stored_other zero r m a regs = record { size = refl; same = λ x h. refl }
 stored_other (suc n) r m a regs = one_more a n (byte_at r regs) m (stored (suc n) r m a regs) (stored_other n (r + 1) (set m a (byte_at r regs)) (a + 1) regs)
 
-copied_other : (n : ℕ) (m : List ℕ) (s t : ℕ) → Other t n m (copied n m s t)
+pub copied_other : (n : ℕ) (m : List ℕ) (s t : ℕ) → Other t n m (copied n m s t)
 copied_other zero m s t = record { size = refl; same = λ x h. refl }
 copied_other (suc n) m s t = one_more t n (slice_index m s) m (copied (suc n) m s t) (copied_other n (set m t (slice_index m s)) (s + 1) (t + 1))
 
-record Took (n : ℕ) (m : List ℕ) (a left : ℕ) (m' : List ℕ) : Type 0 where
-  most : left ≤ n
-  other : Other a (n - left) m m'
+pub record Took (n : ℕ) (m : List ℕ) (a left : ℕ) (m' : List ℕ) : Type 0 where
+  pub most : left ≤ n
+  pub other : Other a (n - left) m m'
 
 took_more : (n b : ℕ) (m : List ℕ) (a left : ℕ) (m' : List ℕ) → Took n (set m a b) (a + 1) left m' → Took (suc n) m a left m'
 took_more n b m a left m' t =
@@ -209,14 +209,14 @@ copies old end new n s t r h =
     goes_on (range t n) old end new (subst (λ (m : List ℕ). ChangesWithin (range t n) old.memory m) (sym h.ends.memory_is) (within_range t n old.memory (copied n old.memory s t) (copied_other n old.memory s t))) h.ends.is (ap is_stopped h.ends.regs_are ∙ r)
 
 module _ {B : Type 0} (moves : B → Event → B → Type 0) where
-  takes : (message later : Bool) (n : ℕ) (m : List ℕ) (a : ℕ) (bus : B) (left : ℕ) (m' : List ℕ) (bus' : B) → TakesIn moves message later n m a bus left m' bus' → Took n m a left m'
+  pub takes : (message later : Bool) (n : ℕ) (m : List ℕ) (a : ℕ) (bus : B) (left : ℕ) (m' : List ℕ) (bus' : B) → TakesIn moves message later n m a bus left m' bus' → Took n m a left m'
   takes message later zero m a bus left m' bus' h = took_none zero m a left m' (let e : left ≡ 0 = h.0 in omega arith) h.1
   takes message later (suc n) m a bus left m' bus' h = elim h.2 [
     | inl e ↦ took_none (suc n) m a left m' (let q : left ≡ suc n = e.all_left in omega arith) e.same
     | inr x ↦ took_more n x.0 m a left m' (takes message true n (set m a x.0) (a + 1) x.1 left m' bus' x.3)
   ]
 
-  goes : (n : ℕ) (m : List ℕ) (a : ℕ) (bus : B) (left : ℕ) (bus' : B) → GoesOut moves n m a bus left bus' → left ≤ n
+  pub goes : (n : ℕ) (m : List ℕ) (a : ℕ) (bus : B) (left : ℕ) (bus' : B) → GoesOut moves n m a bus left bus' → left ≤ n
   goes zero m a bus left bus' h = let e : left ≡ 0 = h.0 in omega arith
   goes (suc n) m a bus left bus' h = elim h [
     | inl x ↦ let e : left ≡ suc n = x.1 in omega arith
@@ -371,6 +371,12 @@ module _ {B : Type 0} (moves : B → Event → B → Type 0) where
       let e : o ≡ x = one_spelling (word_at old.memory old.regs.dsp) (word_at old.memory (old.regs.dsp + 4)) (third_at old.memory old.regs) o x there at in
       let l : ChangesWithin (writes o (after_fetch old) new.regs.dbc) old.memory new.memory = (does word o old (after_fetch old) end new there.fields refl s h).changes in
       subst (λ (r : List Range). ChangesWithin r old.memory new.memory) (writes_fetched o old new.regs.dbc ∙ ap (λ (y : Op). writes y old new.regs.dbc) e) l
+
+  pub keeps_size : KeepsSize moves
+  keeps_size word old end new (ran.idle s e n) = ap (λ (c : Chip B). length c.memory) n
+  keeps_size word old end new (ran.unfetched s c h) = ap length h.ends.memory_is
+  keeps_size word old end new (ran.unspelled s c n h) = ap length h.ends.memory_is
+  keeps_size word old end new (ran.does s c o there h) = (does word o old (after_fetch old) end new there.fields refl s h).changes.size
 
   pub no_row_writes : NoRowWrites moves
   no_row_writes word old end new none (ran.idle s e n) = ap (λ (c : Chip B). c.memory) n

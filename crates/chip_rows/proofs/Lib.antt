@@ -3,3 +3,4 @@ pub mod Following
 pub mod Bytes
 pub mod Words
 pub mod Leaving
+pub mod Reading

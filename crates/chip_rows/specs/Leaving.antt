@@ -9,18 +9,28 @@ use Rattle.chip_step.specs.Chip.{Chip}
 use Rattle.chip_step.specs.Step.{Ran as Steps, IsAt, can_fetch}
 use Rattle.chip_step.specs.declared.outcome.StepEnd.{StepEnd}
 use Rattle.chip_step.specs.declared.outcome.StepEnd.TheVariants.{Ran, Stopped}
-use Rattle.chip_rows.specs.Touched.{Range, Block, IsIn, block_of, writes}
+use Rattle.chip_rows.specs.Touched.{Range, Block, IsIn, block_of, writes, touched}
 
 -- memory has its size, and each byte outside the ranges stays
 pub record ChangesWithin (ranges : List Range) (old new : List ℕ) : Type 0 where
   pub size : length new ≡ length old
   pub others : (x : ℕ) → (IsIn ranges x → ⊥) → slice_index new x ≡ slice_index old x
 
+-- a step keeps the size of memory
+abbrev pub KeepsSize : {B : Type 0} → (B → Event → B → Type 0) → Type 0
+KeepsSize {B} moves = (word : ℕ) (old : Chip B) (end : StepEnd) (new : Chip B) → Steps moves word old end new → length new.memory ≡ length old.memory
+
 -- a step changes memory within what the instruction at DSP writes, however the step ends
 abbrev pub WritesWithin : {B : Type 0} → (B → Event → B → Type 0) → Type 0
 WritesWithin {B} moves =
     (word : ℕ) (old : Chip B) (end : StepEnd) (new : Chip B) (op : Op) → IsAt old op → Steps moves word old end new
     → ChangesWithin (writes op old new.regs.dbc) old.memory new.memory
+
+-- so it changes memory within what it touches
+abbrev pub StaysWithin : {B : Type 0} → (B → Event → B → Type 0) → Type 0
+StaysWithin {B} moves =
+    (word : ℕ) (old : Chip B) (end : StepEnd) (new : Chip B) (op : Op) → IsAt old op → Steps moves word old end new
+    → ChangesWithin (touched op old new.regs.dbc) old.memory new.memory
 
 -- where no row spells the words at DSP, memory stays
 abbrev pub NoRowWrites : {B : Type 0} → (B → Event → B → Type 0) → Type 0

@@ -4,3 +4,4 @@ pub mod Bytes
 pub mod Words
 pub mod Touched
 pub mod Leaving
+pub mod Reading

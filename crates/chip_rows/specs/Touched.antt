@@ -48,9 +48,12 @@ abbrev pub came : Bool → (left : ℕ) → Block → List Range
 came true left b = range b.address (b.count - left)
 came false left b = []
 
+abbrev pub untaken : (left : ℕ) → ℕ
+untaken left = if nat_eq left 0 then 0 else 1
+
 abbrev pub went : Bool → (left : ℕ) → Block → List Range
 went true left b = []
-went false left b = range b.address (b.count - left + (if nat_eq left 0 then 0 else 1))
+went false left b = range b.address (b.count - left + untaken left)
 
 abbrev pub of_block : (Block → List Range) → Option Block → List Range
 of_block ranges None = []

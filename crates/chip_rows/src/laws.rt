@@ -3,8 +3,9 @@
 ghost use Rattle.chip_rows.specs.Answers.{HasOneAnswer, HasOneEnd};
 ghost use Rattle.chip_rows.specs.Following.{Follows, StepsFollow};
 ghost use Rattle.chip_rows.specs.Bytes.{StepsKeepBytes};
-ghost use Rattle.chip_rows.specs.Words.{MovesWords};
-ghost use Rattle.chip_rows.specs.Leaving.{WritesWithin, NoRowWrites, StopsLeaveMemory, RunsOn, CountsDown};
+ghost use Rattle.chip_rows.specs.Words.{MovesWords, FindsWords, LoadsWords, StoresWords};
+ghost use Rattle.chip_rows.specs.Reading.{ReadsWithin};
+ghost use Rattle.chip_rows.specs.Leaving.{KeepsSize, WritesWithin, StaysWithin, NoRowWrites, StopsLeaveMemory, RunsOn, CountsDown};
 
 use chip_step::Bus;
 
@@ -29,15 +30,26 @@ pub fn bytes_stay_bytes<B: Bus>()
     ensures { StepsKeepBytes B.moves }
 {}
 
-/// LOAD and STORE of four bytes move one word.
-pub fn moves_words()
-    ensures { MovesWords }
+/// LOAD and STORE of four bytes of a wide register move one word, and find it absolutely or from DSA on.
+pub fn moves_words<B: Bus>()
+    ensures bytes { MovesWords }
+    ensures finds { FindsWords }
+    ensures load { LoadsWords B }
+    ensures store { StoresWords B }
 {}
 
-/// A step changes memory within what its instruction writes, and not at all where no row spells the words at DSP.
+/// A step keeps the size of memory. It changes bytes within what its instruction writes, which is a part of what this
+/// touches, and none where no row spells the words at DSP.
 pub fn writes_within<B: Bus>()
+    ensures size { KeepsSize B.moves }
     ensures rows { WritesWithin B.moves }
+    ensures touched { StaysWithin B.moves }
     ensures no_row { NoRowWrites B.moves }
+{}
+
+/// A step depends on no byte of memory but those of its instruction and those that this reads.
+pub fn reads_within<B: Bus>()
+    ensures { ReadsWithin B.moves }
 {}
 
 /// A step that stops for another cause than a phase mismatch leaves memory as it was.

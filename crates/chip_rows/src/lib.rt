@@ -5,6 +5,6 @@
 mod laws;
 
 pub use laws::{
-    Relation, bytes_stay_bytes, moves_count_down, moves_words, one_step, same_step, step_runs_on,
-    stops_leave_memory, writes_within,
+    Relation, bytes_stay_bytes, moves_count_down, moves_words, one_step, reads_within, same_step,
+    step_runs_on, stops_leave_memory, writes_within,
 };

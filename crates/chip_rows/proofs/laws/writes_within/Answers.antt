@@ -1,5 +1,6 @@
-use Rattle.chip_rows.proofs.Leaving.{writes_within, no_row_writes}
+use Rattle.chip_rows.proofs.Leaving as law
+use Rattle.chip_rows.proofs.Reading.{stays_within}
 use Rattle.chip_rows.proofs.laws.writes_within.Goals as goal
 
 pub returns : goal.returns
-returns g c = record { rows = writes_within g.B.Bus.moves; no_row = no_row_writes g.B.Bus.moves }
+returns g c = record { size = law.keeps_size g.B.Bus.moves; rows = law.writes_within g.B.Bus.moves; touched = stays_within g.B.Bus.moves; no_row = law.no_row_writes g.B.Bus.moves }

@@ -1,0 +1,5 @@
+use Rattle.chip_rows.proofs.Reading as law
+use Rattle.chip_rows.proofs.laws.reads_within.Goals as goal
+
+pub returns : goal.returns
+returns g c = law.reads_within g.B.Bus.moves
