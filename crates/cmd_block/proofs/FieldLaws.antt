@@ -7,7 +7,7 @@ use Rattle.bench_words.specs.Views.{Apart, Wrote}
 use Rattle.bench_words.proofs.MemoryLaws.{wrote-put_word}
 use Rattle.host_map.specs.Places.{IsBlockPlace}
 use Rattle.cmd_block.specs.Block.{IsField, offset, field_of, IsLayout, NamesOffsets}
-use Rattle.cmd_block.specs.Laws.{FieldsFit, FieldsApart}
+use Rattle.cmd_block.specs.Laws.{FieldsFit, FieldsApart, WritesOneField}
 use Rattle.cmd_block.specs.declared.Field.{Field}
 use Rattle.cmd_block.specs.declared.Field.TheVariants.{Start, Restart, Lastp, Savep, State, Status, Sel, Gate, MsgCount, MsgAt, CmdCount, CmdAt, StatCount, StatAt, SegCount, SegAt, CtxCount, CtxAt, CtxReturn}
 
@@ -140,3 +140,6 @@ field-other m block w f g size place hf hg n hw =
 pub field-elsewhere : (m : List ℕ) (a b w : ℕ) (f g : Field) → length m ≡ 0x400000 → IsBlockPlace a → IsBlockPlace b → a ≢ b → IsField f → IsField g → w < 2 ^ 32 → field_of (put_word m (a + offset f) w) b g ≡ field_of m b g
 field-elsewhere m a b w f g size pa pb n hf hg hw =
     (wrote-field m a w f size pa hf hw).other (b + offset g) (blocks_apart a b f g pa pb n hf hg)
+
+pub writes_one_field : WritesOneField
+writes_one_field = record { same = field-same; other = field-other; elsewhere = field-elsewhere }

@@ -4,7 +4,7 @@ use Rattle.std.proofs.lemmas.Bool.{cases_order}
 use Rattle.bench_words.specs.Views.{Apart}
 use Rattle.host_map.specs.Map.{IsMap}
 use Rattle.host_map.specs.Laws.{LieInRegions, RegionsApart, PlacesApart, NumbersBlocks, PlacesFit}
-use Rattle.host_map.specs.Places.{tag_entry}
+use Rattle.host_map.specs.Places.{tag_entry, IsCommandBlock, IsBlockPlace}
 use Rattle.host_map.specs.Regions.{Region, Script, Control, FixedBlocks, StartRing, DoneRing, TagTables, Chains, CommandBlocks, Buffers, first, behind, IsWordOf}
 
 -- the constants of the code are those of the map
@@ -149,11 +149,14 @@ regions_apart r s a b n wa wb = apart_by r s a b (cases_order (number r) (number
 
 -- ---- places
 
+pub place_of_command : (a : ℕ) → IsCommandBlock a → IsBlockPlace a
+place_of_command a h = record { from = omega (arith, h.from); gap = inr h.from; below = h.below; aligned = h.aligned }
+
 pub numbers_blocks : NumbersBlocks
 numbers_blocks =
     record {
       is_block = λ b h. record { from = omega arith; below = omega arith; aligned = omega arith };
-      is_place = λ a h. record { from = omega (arith, h.from); gap = inr h.from; below = h.below; aligned = h.aligned };
+      is_place = place_of_command;
       number = λ b. omega arith;
       address = λ a h. omega (arith, h.from, h.aligned);
     }

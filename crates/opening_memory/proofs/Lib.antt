@@ -1,3 +1,4 @@
+pub mod KeepingLaws
 pub mod OpeningLaws
 pub mod Pieces
 pub mod TableLaws

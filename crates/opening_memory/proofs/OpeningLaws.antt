@@ -1,60 +1,42 @@
 -- What memory says at the opening, and that writing the table into empty memory makes it.
-use Rattle.std.proofs.Common.{◌≡◌, ◌≢◌, ◌++◌, ℕ, zero, suc, ◌+◌, ◌-◌, ◌*◌, ◌/◌, ◌%◌, ◌<◌, ◌≤◌, List, [], ◌∷◌, length, get_or, replicate, map, flat_map, fold, refl, sym, ap, ◌∙◌, arith, lit≤, lit<}
+use Rattle.std.proofs.Common.{◌≡◌, ◌++◌, ℕ, zero, suc, ◌+◌, ◌-◌, ◌*◌, ◌/◌, ◌%◌, ◌<◌, ◌≤◌, List, length, replicate, flat_map, fold, refl, sym, ap, ◌∙◌, arith, lit≤}
 use Rattle.std.specs.Prelude.{slice_index}
 use Rattle.std.specs.List.{range_with_len}
 use Rattle.std.proofs.lemmas.List.{length-replicate}
-use Rattle.std.proofs.lemmas.List.FromFn.{map-range_with_len_more}
 use Rattle.bench_words.specs.Memory.{word_at, put_word, IsZero}
-use Rattle.host_map.specs.declared.TheConstants.{IDLE, NOTASK, START_RING, DONE_RING, TAG_TABLES, CHAINS}
+use Rattle.host_map.specs.declared.TheConstants.{IDLE, NOTASK, START_RING, DONE_RING, CHAINS}
 use Rattle.host_map.specs.Places.{start_slot, done_slot, tag_entry, target_chain, unit_chain, table_at}
 use Rattle.driver_script.specs.Script.{image, laid, IsLoaded}
 use Rattle.driver_script.proofs.ScriptLaws.{laid-zero, laid-more}
 use Rattle.job_rings.specs.Rings.{next_slot}
 use Rattle.job_rings.proofs.RingLaws.{counts_start_slots, counts_done_slots}
 use Rattle.rig_types.specs.declared.rig.Unit.{Unit as RigUnit}
-use Rattle.rig_chains.specs.Chains.{targets, target_ops, lun_ops, unit_ops, put_ops, with_target, with_unit, with_chains, IsLaid}
+use Rattle.rig_chains.specs.Chains.{targets, target_ops, lun_ops, unit_ops, with_target, with_unit, with_chains, IsLaid}
 use Rattle.rig_chains.proofs.LaidLaws.{chains_laid, laid_kept}
 use Rattle.opening_memory.specs.Tables.{value_at, written, spread, spelled}
 use Rattle.opening_memory.specs.Opening.{script_table, control_table, fixed_table, ring_table, tag_table, target_table, unit_table, chain_table, opening_table, IsOpening}
 use Rattle.opening_memory.specs.Laws.{HasConstants, HasFixedBlocks, IsEmptyRing, IsOpened, SaysNames, IsWritten, Exists, WritesParts}
-use Rattle.opening_memory.proofs.TableLaws.{value-append, value-twice, length-written, word-written, written-append, written-flat, written-spelled, spread-at, spread-off}
+use Rattle.opening_memory.proofs.TableLaws.{value-append, value-twice, length-written, word-written, written-append, written-flat, written-spelled, last-word, spread-none, spread-next, spread-at, spread-off}
 use Rattle.opening_memory.proofs.Pieces.{lie_chains, lie_opening, in_script, in_control, in_fixed, in_start, in_done, in_tags, in_chains, in_rest}
 
 -- ---- what the calls write
 
-one_word : (m : List ℕ) (a v : ℕ) → written m ((a, v) ∷ []) ≡ put_word m a v
-unfolding written
-one_word m a v = refl
-
-spread-more : (base step : ℕ) (word : ℕ → ℕ) (n : ℕ) → spread base step word (n + 1) ≡ spread base step word n ++ (base + step * n, word n) ∷ []
-unfolding spread
-spread-more base step word n = map-range_with_len_more (λ (k : ℕ). (base + step * k, word k)) 0 n n (omega arith)
-
-script_none : (m : List ℕ) (word : ℕ → ℕ) → written m (spread 0 4 word 0) ≡ m
-unfolding written spread
-script_none m word = refl
-
 script_to : (m : List ℕ) (version n : ℕ) → laid m version n ≡ written m (spread 0 4 (λ k. image k version) n)
-script_to m version zero = laid-zero m version ∙ sym (script_none m (λ k. image k version))
+script_to m version zero = laid-zero m version ∙ sym (spread-none m 0 4 (λ k. image k version))
 script_to m version (suc n) =
     let e : suc n ≡ n + 1 = omega arith in
-    let place : 0 + 4 * n ≡ 4 * n = omega arith in
-    let before = spread 0 4 (λ k. image k version) n in
+    let place : 4 * n ≡ 0 + 4 * n = omega arith in
+    let before = written m (spread 0 4 (λ k. image k version) n) in
     rw e (
     laid-more m version n
     ∙ ap (λ (l : List ℕ). put_word l (4 * n) (image n version)) (script_to m version n)
-    ∙ sym (
-    ap (λ (ps : List (ℕ × ℕ)). written m ps) (spread-more 0 4 (λ k. image k version) n)
-    ∙ written-append m before ((0 + 4 * n, image n version) ∷ [])
-    ∙ one_word (written m before) (0 + 4 * n) (image n version)
-    ∙ ap (λ (a : ℕ). put_word (written m before) a (image n version)) place
-    )
+    ∙ ap (λ (a : ℕ). put_word before a (image n version)) place
+    ∙ spread-next m 0 4 (λ k. image k version) n
     )
 
 unit_written : (m : List ℕ) (u : ℕ) → written m (unit_table u) ≡ with_unit m u
 unit_written m u =
-    written-append m (spelled (unit_chain u) (unit_ops u)) ((unit_chain u + 0x10, table_at u 0) ∷ [])
-    ∙ one_word (written m (spelled (unit_chain u) (unit_ops u))) (unit_chain u + 0x10) (table_at u 0)
+    last-word m (spelled (unit_chain u) (unit_ops u)) (unit_chain u + 0x10) (table_at u 0)
     ∙ ap (λ (n : List ℕ). put_word n (unit_chain u + 0x10) (table_at u 0)) (written-spelled m (unit_chain u) (unit_ops u))
 
 chains_written : (m : List ℕ) (us : List RigUnit) → written m (chain_table us) ≡ with_chains m us
@@ -77,6 +59,30 @@ writes_parts =
       chains = λ m us. sym (chains_written m us);
       next = written-append;
     }
+
+-- the parts one after another are the whole table
+pub all_parts : (m : List ℕ) (version : ℕ) (us : List RigUnit) → with_chains (written (written (written (written (written (laid m version 302) control_table) fixed_table) (ring_table START_RING)) (ring_table DONE_RING)) tag_table) us ≡ written m (opening_table version us)
+all_parts m version us =
+    let script = laid m version 302 in
+    let chains = chain_table us in
+    let tags = tag_table ++ chains in
+    let done = ring_table DONE_RING ++ tags in
+    let start = ring_table START_RING ++ done in
+    let fixed = fixed_table ++ start in
+    let c = written script control_table in
+    let f = written c fixed_table in
+    let s = written f (ring_table START_RING) in
+    let d = written s (ring_table DONE_RING) in
+    sym (
+    written-append m (script_table version) (control_table ++ fixed)
+    ∙ ap (λ (n : List ℕ). written n (control_table ++ fixed)) (sym (script_to m version 302))
+    ∙ written-append script control_table fixed
+    ∙ written-append c fixed_table start
+    ∙ written-append f (ring_table START_RING) done
+    ∙ written-append s (ring_table DONE_RING) tags
+    ∙ written-append d tag_table chains
+    ∙ chains_written (written d tag_table) us
+    )
 
 -- ---- the words by their names
 
@@ -137,7 +143,7 @@ module _ (m : List ℕ) (version : ℕ) (us : List RigUnit) (few : length us ≤
   fixed : (a : ℕ) → a % 4 ≡ 0 → 0x1200 ≤ a → a + 4 ≤ 0x2000 → word_at m a ≡ value_at fixed_table a 0
   fixed a al from to = o.words a al (omega arith) ∙ in_fixed version us few a from to
 
-  constants : HasConstants m
+  constants : HasConstants (word_at m)
   unfolding value_at
   constants = record {
     abort_tag = control 0x1014 refl (lit≤ tt) (lit≤ tt);
@@ -150,7 +156,7 @@ module _ (m : List ℕ) (version : ℕ) (us : List RigUnit) (few : length us ≤
     front_idle = control 0x1030 refl (lit≤ tt) (lit≤ tt);
   }
 
-  fixed_blocks : HasFixedBlocks m
+  fixed_blocks : HasFixedBlocks (word_at m)
   unfolding value_at
   fixed_blocks = record {
     idle = fixed 0x1200 refl (lit≤ tt) (lit≤ tt);
@@ -164,13 +170,13 @@ module _ (m : List ℕ) (version : ℕ) (us : List RigUnit) (few : length us ≤
   unfolding value_at
   begins = (control 0x1000 refl (lit≤ tt) (lit≤ tt), control 0x1004 refl (lit≤ tt) (lit≤ tt), control 0x1008 refl (lit≤ tt) (lit≤ tt))
 
-  start_ring : IsEmptyRing m start_slot
+  start_ring : IsEmptyRing (word_at m) start_slot
   start_ring = record {
     idle = λ n. o.words (start_slot n) (omega arith) (omega arith) ∙ in_start version us few (start_slot n) (omega arith) (omega arith) ∙ ring_idle START_RING (n % 512) (omega arith);
     next = λ n. o.words (start_slot n + 4) (omega arith) (omega arith) ∙ in_start version us few (start_slot n + 4) (omega arith) (omega arith) ∙ ring_next START_RING (n % 512) (omega arith) ∙ counts_start_slots.next n;
   }
 
-  done_ring : IsEmptyRing m done_slot
+  done_ring : IsEmptyRing (word_at m) done_slot
   done_ring = record {
     idle = λ n. o.words (done_slot n) (omega arith) (omega arith) ∙ in_done version us few (done_slot n) (omega arith) (omega arith) ∙ ring_idle DONE_RING (n % 512) (omega arith);
     next = λ n. o.words (done_slot n + 4) (omega arith) (omega arith) ∙ in_done version us few (done_slot n + 4) (omega arith) (omega arith) ∙ ring_next DONE_RING (n % 512) (omega arith) ∙ counts_done_slots.next n;

@@ -1,5 +1,5 @@
 -- The pieces of the opening table: where each lies, and the value of the whole table in each region.
-use Rattle.std.proofs.Common.{◌≡◌, ◌≢◌, ◌++◌, ℕ, ◌+◌, ◌-◌, ◌*◌, ◌%◌, ◌^◌, ◌<◌, ◌≤◌, ◌⊎◌, inl, inr, List, [], ◌∷◌, length, flat_map, refl, ap, ◌∙◌, arith, lit<, lit≤}
+use Rattle.std.proofs.Common.{◌≡◌, ◌++◌, ℕ, ◌+◌, ◌*◌, ◌%◌, ◌<◌, ◌≤◌, inl, inr, List, [], ◌∷◌, length, flat_map, refl, ap, ◌∙◌, arith, lit<, lit≤}
 use Rattle.std.specs.List.{range_with_len}
 use Rattle.host_map.specs.declared.TheConstants.{IDLE, NOTASK, START_RING, DONE_RING, TAG_TABLES, CHAINS}
 use Rattle.host_map.specs.Places.{target_chain, unit_chain, table_at}

@@ -5,9 +5,9 @@ use Rattle.std.specs.List.{All, range_with_len}
 use Rattle.std.proofs.lemmas.Bool.{cases_order, false≢true}
 use Rattle.std.proofs.lemmas.Bool.Decides.{nat_tests}
 use Rattle.std.proofs.lemmas.List.Elements.{All-head, All-tail}
+use Rattle.std.proofs.lemmas.List.FromFn.{map-range_with_len_more}
 use Rattle.bench_words.specs.Memory.{word_at, put_word}
 use Rattle.bench_words.proofs.MemoryLaws.{length-put_word, word_same, word_apart}
-use Rattle.scripts_ops.specs.Table.{row}
 use Rattle.scripts_ops.specs.declared.values.Op.{Op}
 use Rattle.rig_chains.specs.Chains.{put_op, put_ops}
 use Rattle.rig_chains.proofs.Blocks.{Rising}
@@ -212,6 +212,27 @@ pub spread-off : (base step : ℕ) (word : ℕ → ℕ) (count x old : ℕ) → 
 unfolding spread
 spread-off base step word count x old off = run-off base step word 0 count x old (λ k l u. off k)
 
+one_word : (m : List ℕ) (a v : ℕ) → written m ((a, v) ∷ []) ≡ put_word m a v
+unfolding written
+one_word m a v = refl
+
+-- no word, and one word more
+pub spread-none : (m : List ℕ) (base step : ℕ) (word : ℕ → ℕ) → written m (spread base step word 0) ≡ m
+unfolding written spread
+spread-none m base step word = refl
+
+spread-more : (base step : ℕ) (word : ℕ → ℕ) (n : ℕ) → spread base step word (n + 1) ≡ spread base step word n ++ (base + step * n, word n) ∷ []
+unfolding spread
+spread-more base step word n = map-range_with_len_more (λ (k : ℕ). (base + step * k, word k)) 0 n n (omega arith)
+
+pub spread-next : (m : List ℕ) (base step : ℕ) (word : ℕ → ℕ) (n : ℕ) → put_word (written m (spread base step word n)) (base + step * n) (word n) ≡ written m (spread base step word (n + 1))
+spread-next m base step word n =
+    sym (
+    ap (λ (ps : List (ℕ × ℕ)). written m ps) (spread-more base step word n)
+    ∙ written-append m (spread base step word n) ((base + step * n, word n) ∷ [])
+    ∙ one_word (written m (spread base step word n)) (base + step * n) (word n)
+    )
+
 -- ---- instructions
 
 pub spelled-lie : (a low high : ℕ) (ops : List Op) → All IsPlain ops → low ≤ a → a % 4 ≡ 0 → a + 8 * length ops ≤ high → Lie low high (spelled a ops)
@@ -225,6 +246,9 @@ spelled-lie a low high (op ∷ ops) plain l m h =
       here.first,
       (omega arith, omega arith, omega arith, here.second, spelled-lie (a + 8) low high ops (All-tail IsPlain op ops plain) (omega arith) (omega arith) (omega arith)),
     )
+
+pub last-word : (m : List ℕ) (ps : List (ℕ × ℕ)) (a v : ℕ) → written m (ps ++ (a, v) ∷ []) ≡ put_word (written m ps) a v
+last-word m ps a v = written-append m ps ((a, v) ∷ []) ∙ one_word (written m ps) a v
 
 pub written-spelled : (m : List ℕ) (a : ℕ) (ops : List Op) → written m (spelled a ops) ≡ put_ops m a ops
 unfolding written spelled put_ops
