@@ -38,7 +38,8 @@ pub record ShelfState : Type 0 where
   pub files : List File
   pub failing : List ℕ
   pub calls : ℕ
-  pub faults : ℕ
+  pub load_faults : ℕ
+  pub store_faults : ℕ
 
 -- whether a load or a store fails because the call is to fail
 abbrev pub call_fails : ShelfState → Bool
@@ -48,6 +49,10 @@ call_fails s = is_failing s.failing (next_call s.calls)
 abbrev pub load_fails : ShelfState → List ℕ → Bool
 load_fails s name = call_fails s || not (is_some (by_name s.files name))
 
--- the shelf after a call, which failed or not, apart from its files
-abbrev pub counted : ShelfState → Bool → ShelfState
-counted s failed = record s { calls = next_call s.calls; faults = if failed then count_up s.faults else s.faults }
+-- the shelf after a load, which failed or not
+abbrev pub after_load : ShelfState → Bool → ShelfState
+after_load s failed = record s { calls = next_call s.calls; load_faults = if failed then count_up s.load_faults else s.load_faults }
+
+-- the shelf after a store, which failed or not, apart from its files
+abbrev pub after_store : ShelfState → Bool → ShelfState
+after_store s failed = record s { calls = next_call s.calls; store_faults = if failed then count_up s.store_faults else s.store_faults }

@@ -70,7 +70,9 @@ impl QuietShelf {
 impl Shelf for QuietShelf {
     ghost files = { λ s. Some (by_name s) };
 
-    ghost faults = { λ _. 0 };
+    ghost load_faults = { λ _. 0 };
+
+    ghost store_faults = { λ _. 0 };
 
     fn load(&mut self, name: &str, limit: u32) -> Result<Bytes, ShelfFault> {
         match self.files.file(name) {

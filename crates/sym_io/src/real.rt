@@ -50,33 +50,39 @@ impl<W: Write> Sink for RealSink<W> {
     }
 }
 
-/// The shelf over the files of the system. It counts each error but want of memory, and tells no files.
+/// The shelf over the files of the system. It counts each error of a load and each of a store, but want of memory,
+/// and tells no files.
 #[derive(Drop)]
 pub struct RealShelf<R> {
     rt: R,
-    faults: u64,
+    load_faults: u64,
+    store_faults: u64,
 }
 
 impl<R: Files + AllocGlobal> RealShelf<R> {
     /// The shelf over this runtime.
     pub fn new(rt: R) -> RealShelf<R> {
-        RealShelf { rt, faults: 0 }
-    }
-
-    // The fault of an error, which is counted where it isn't want of memory.
-    fn fault_of(&mut self, error: io::Error) -> ShelfFault
-        ensures want { (result ≡ OutOfMemory) ↔ (error_kind error ≡ ErrorKind.OutOfMemory) }
-        ensures never_long { result ≢ TooLong }
-        ensures later { self.old.faults ≤ self.new.faults }
-        ensures failed { result ≡ Failed → Rose self.old.faults self.new.faults }
-        ensures steady { result ≢ Failed → self.new.faults ≡ self.old.faults }
-    {
-        if error.kind() == ErrorKind::OutOfMemory {
-            return ShelfFault::OutOfMemory;
+        RealShelf {
+            rt,
+            load_faults: 0,
+            store_faults: 0,
         }
-        self.faults = self.faults.saturating_add(1);
-        ShelfFault::Failed
     }
+}
+
+// The fault of an error, which is counted where it isn't want of memory.
+fn fault_of(faults: &mut u64, error: io::Error) -> ShelfFault
+    ensures want { (result ≡ OutOfMemory) ↔ (error_kind error ≡ ErrorKind.OutOfMemory) }
+    ensures never_long { result ≢ TooLong }
+    ensures later { faults.old ≤ faults.new }
+    ensures failed { result ≡ Failed → Rose faults.old faults.new }
+    ensures steady { result ≢ Failed → faults.new ≡ faults.old }
+{
+    if error.kind() == ErrorKind::OutOfMemory {
+        return ShelfFault::OutOfMemory;
+    }
+    *faults = faults.saturating_add(1);
+    ShelfFault::Failed
 }
 
 // All the bytes that a reader gives, of which there are at most `limit`; `None` where there are more.
@@ -103,20 +109,22 @@ fn file_within<R: Files + AllocGlobal>(rt: &R, name: &str, limit: u32) -> io::Re
 impl<R: Files + AllocGlobal> Shelf for RealShelf<R> {
     ghost files = { λ _. None };
 
-    ghost faults = { λ s. s.faults };
+    ghost load_faults = { λ s. s.load_faults };
+
+    ghost store_faults = { λ s. s.store_faults };
 
     fn load(&mut self, name: &str, limit: u32) -> Result<Bytes, ShelfFault> {
         match file_within(&self.rt, name, limit) {
             Ok(Some(bytes)) => Ok(bytes),
             Ok(None) => Err(ShelfFault::TooLong),
-            Err(error) => Err(self.fault_of(error)),
+            Err(error) => Err(fault_of(&mut self.load_faults, error)),
         }
     }
 
     fn store(&mut self, name: &str, bytes: &[u8]) -> Result<(), ShelfFault> {
         match fs::write(&self.rt, name, bytes) {
             Ok(()) => Ok(()),
-            Err(error) => Err(self.fault_of(error)),
+            Err(error) => Err(fault_of(&mut self.store_faults, error)),
         }
     }
 }

@@ -11,7 +11,7 @@ use scsi_words::Bytes;
 /// Why a load or a store was refused.
 #[derive(Clone, Copy, Debug, PartialEq, Eq)]
 pub enum ShelfFault {
-    /// The shelf failed: its count of faults rose.
+    /// The shelf failed: the count of this call's kind rose.
     Failed,
     /// The file has more bytes than the limit of the load.
     TooLong,
@@ -24,29 +24,34 @@ pub trait Shelf {
     /// The files, where the shelf tells them.
     ghost files: { Self → Option FilesByName };
 
-    /// How many loads and stores have failed. It never falls, and stands still at 2^64 - 1.
-    ghost faults: { Self → ℕ };
+    /// How many loads have failed. It never falls, rises with a load's `Failed` alone, and stands still at 2^64 - 1.
+    ghost load_faults: { Self → ℕ };
+
+    /// How many stores have failed. It never falls, rises with a store's `Failed` alone, and stands still at 2^64 - 1.
+    ghost store_faults: { Self → ℕ };
 
     /// The whole file, which has at most `limit` bytes; no bytes for a name that isn't held and no fault.
-    /// `TooLong` comes exactly where no fault came and the file has more bytes. The count of faults rises with
-    /// `Failed` alone. No file changes.
+    /// `TooLong` comes exactly where no fault came and the file has more bytes. No file changes, and the count of
+    /// stores stays.
     fn load(&mut self, name: &str, limit: u32) -> Result<Bytes, ShelfFault>
         ensures whole { IfOk result (λ bytes. IfSome (files self.old) (λ held. bytes ≡ whole_file held name.now)) }
         ensures within { IfOk result (λ bytes. length bytes ≤ limit) }
         ensures same { files self.new ≡ files self.old }
-        ensures later { faults self.old ≤ faults self.new }
-        ensures failed { result ≡ Err Failed → Rose (faults self.old) (faults self.new) }
+        ensures later { load_faults self.old ≤ load_faults self.new }
+        ensures failed { result ≡ Err Failed → Rose (load_faults self.old) (load_faults self.new) }
         ensures long { result ≡ Err TooLong → IfSome (files self.old) (λ held. limit < length (whole_file held name.now)) }
         ensures refused { result ≢ Err Failed → IfSome (files self.old) (λ held. limit < length (whole_file held name.now) → result ≡ Err TooLong) }
-        ensures steady { result ≢ Err Failed → faults self.new ≡ faults self.old };
+        ensures steady { result ≢ Err Failed → load_faults self.new ≡ load_faults self.old }
+        ensures stores { store_faults self.new ≡ store_faults self.old };
 
     /// Makes this file these bytes and changes no other. After an `Err`, which is never `TooLong`, a shelf that
-    /// tells its files has them as before. The count of faults rises with `Failed` alone.
+    /// tells its files has them as before. The count of loads stays.
     fn store(&mut self, name: &str, bytes: &[u8]) -> Result<(), ShelfFault>
         ensures stored { OnOk result (files self.new ≡ option_map (λ held. with_file held name.now bytes.now) (files self.old)) }
         ensures same { OnErr result (files self.new ≡ files self.old) }
-        ensures later { faults self.old ≤ faults self.new }
-        ensures failed { result ≡ Err Failed → Rose (faults self.old) (faults self.new) }
+        ensures later { store_faults self.old ≤ store_faults self.new }
+        ensures failed { result ≡ Err Failed → Rose (store_faults self.old) (store_faults self.new) }
         ensures never_long { result ≢ Err TooLong }
-        ensures steady { result ≢ Err Failed → faults self.new ≡ faults self.old };
+        ensures steady { result ≢ Err Failed → store_faults self.new ≡ store_faults self.old }
+        ensures loads { load_faults self.new ≡ load_faults self.old };
 }

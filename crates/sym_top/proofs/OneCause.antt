@@ -16,7 +16,7 @@ within_limit : (held : FilesByName) (name a : List ℕ) → IsFile (Some held) n
 within_limit held name a i long = let e : length a ≡ length (whole_file held name) = ap length i.whole in omega (arith, i.within, long)
 
 -- a fault of a source isn't want of memory
-is_fault : (source : List ℕ) (line fault : ℕ) (h : HasSourceFault source line fault) → h.cause ≢ OutOfMemory
+pub is_fault : (source : List ℕ) (line fault : ℕ) (h : HasSourceFault source line fault) → h.cause ≢ OutOfMemory
 is_fault source line fault h e = let none : line_of h.cause ≡ None = ap line_of e in let some : line_of h.cause ≡ Some line = h.line_is in cc
 
 no_both : (source name : List ℕ) (job : Job) (line fault : ℕ) → IsAssembly source name job → HasSourceFault source line fault → ⊥

@@ -32,7 +32,7 @@ left_of c e refusals.Usage i r = absurd i
 left_of c e refusals.Read i r = absurd i
 left_of c e refusals.Write i r = absurd i
 left_of c e refusals.OutOfMemory i r = absurd i
-left_of c e (refusals.Source line fault) i r = (fault-short c e.shelf.files line fault r.0, r.1, r.2)
+left_of c e (refusals.Source line fault) i r = (fault-short c e.shelf.files line fault r.0, r.1)
 left_of c e refusals.TooLong i r = absurd i
 
 pub refuses-answered : (c : Command) (e : Ends) (refusal answered : Refusal) → Stands refusal answered → Refuses c e refusal → Refuses c e answered

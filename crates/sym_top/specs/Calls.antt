@@ -1,10 +1,10 @@
 -- What a command was given and what it left, and when each answer comes.
-use Rattle.std.specs.Prelude.{◌≡◌, ◌⊎◌, ℕ, List, take, Option, Some, None, Result, Ok, Err}
+use Rattle.std.specs.Prelude.{◌≡◌, ◌⊎◌, ℕ, List, take, Option, Some, None, IsSome, Result, Ok, Err}
 use Rattle.std.specs.Option.{option_map}
 use Rattle.std.specs.Io.KnownBytes.{Appends}
 use Rattle.sym_io.specs.ByName.{FilesByName, with_file}
 use Rattle.sym_io.specs.Causes.{Rose}
-use Rattle.sym_top.specs.Jobs.{Job, Output, Makes, IsLong, IsShort, HasFault}
+use Rattle.sym_top.specs.Jobs.{Job, Output, loaded_by, Makes, IsLong, IsShort, HasFault}
 use Rattle.sym_top.specs.CommandLine.{Command}
 use Rattle.sym_top.specs.Refusals.{exit_of, Says}
 use Rattle.sym_top.specs.declared.exit.Exit.{Exit}
@@ -12,15 +12,22 @@ use Rattle.sym_top.specs.declared.exit.Exit.TheVariants as exits
 use Rattle.sym_top.specs.declared.refusal.Refusal.{Refusal}
 use Rattle.sym_top.specs.declared.refusal.Refusal.TheVariants as refusals
 
--- a shelf, by what it tells and its count of faults
+-- a shelf, by what it tells and its counts of loads and stores that failed
 pub record Shelved : Type 0 where
   pub files : Option FilesByName
-  pub faults : ℕ
+  pub loads : ℕ
+  pub stores : ℕ
+
+abbrev pub shelved : Option FilesByName → ℕ → ℕ → Shelved
+shelved files loads stores = record { files = files; loads = loads; stores = stores }
 
 -- a sink, by what it tells and its count of faults
 pub record Sunk : Type 0 where
   pub written : Option (List ℕ)
   pub faults : ℕ
+
+abbrev pub sunk : Option (List ℕ) → ℕ → Sunk
+sunk written faults = record { written = written; faults = faults }
 
 -- the shelf and the output before and after
 pub record Ends : Type 0 where
@@ -29,19 +36,24 @@ pub record Ends : Type 0 where
   pub out : Sunk
   pub out' : Sunk
 
-abbrev pub ends : Option FilesByName → ℕ → Option FilesByName → ℕ → Option (List ℕ) → ℕ → Option (List ℕ) → ℕ → Ends
-ends files loads files' loads' written faults written' faults' = record {
-  shelf = record { files = files; faults = loads };
-  shelf' = record { files = files'; faults = loads' };
-  out = record { written = written; faults = faults };
-  out' = record { written = written'; faults = faults' };
-}
+abbrev pub ends : Shelved → Shelved → Sunk → Sunk → Ends
+ends shelf shelf' out out' = record { shelf = shelf; shelf' = shelf'; out = out; out' = out' }
 
--- nothing is stored, and nothing is printed
+-- no file is changed, and no load or store failed
+pub record IsKept (s s' : Shelved) : Type 0 where
+  pub files : s'.files ≡ s.files
+  pub loads : s'.loads ≡ s.loads
+  pub stores : s'.stores ≡ s.stores
+
+-- nothing is printed, and no write failed
+pub record IsSilent (s s' : Sunk) : Type 0 where
+  pub written : s'.written ≡ s.written
+  pub faults : s'.faults ≡ s.faults
+
+-- nothing is stored, nothing is printed, and nothing failed
 pub record Leaves (e : Ends) : Type 0 where
-  pub files : e.shelf'.files ≡ e.shelf.files
-  pub out : e.out'.written ≡ e.out.written
-  pub steady : e.out'.faults ≡ e.out.faults
+  pub shelf : IsKept e.shelf e.shelf'
+  pub out : IsSilent e.out e.out'
 
 -- the shelf after a job's file was stored, where it has one
 abbrev pub files_with : Option Output → Option FilesByName → Option FilesByName
@@ -50,51 +62,73 @@ files_with (Some o) files = option_map (λ held. with_file held o.name o.bytes) 
 
 -- all is done: the job's file is stored, its text is printed, and nothing failed
 pub record Done (job : Job) (e : Ends) : Type 0 where
-  pub steady : (e.shelf'.faults ≡ e.shelf.faults) × (e.out'.faults ≡ e.out.faults)
+  pub loads : e.shelf'.loads ≡ e.shelf.loads
+  pub stores : e.shelf'.stores ≡ e.shelf.stores
+  pub out : e.out'.faults ≡ e.out.faults
   pub stored : e.shelf'.files ≡ files_with job.output e.shelf.files
   pub printed : Appends e.out.written e.out'.written job.text
 
--- the store failed, and nothing is printed
-pub record Unstored (e : Ends) : Type 0 where
-  pub rose : Rose e.shelf.faults e.shelf'.faults
-  pub leaves : Leaves e
+-- a load failed: no file is changed, and no store failed
+pub record FailsLoad (s s' : Shelved) : Type 0 where
+  pub rose : Rose s.loads s'.loads
+  pub stores : s'.stores ≡ s.stores
+  pub files : s'.files ≡ s.files
+
+-- a store failed: no file is changed, and no load failed
+pub record FailsStore (s s' : Shelved) : Type 0 where
+  pub rose : Rose s.stores s'.stores
+  pub loads : s'.loads ≡ s.loads
+  pub files : s'.files ≡ s.files
+
+-- the load failed, and nothing is printed
+pub record Unloaded (e : Ends) : Type 0 where
+  pub failed : FailsLoad e.shelf e.shelf'
+  pub out : IsSilent e.out e.out'
+
+-- the store of the job's file failed, and nothing is printed
+pub record Unstored (job : Job) (e : Ends) : Type 0 where
+  pub some : IsSome job.output
+  pub failed : FailsStore e.shelf e.shelf'
+  pub out : IsSilent e.out e.out'
 
 -- the output failed: the job's file is stored, and a prefix of its text is printed
 pub record Unprinted (job : Job) (e : Ends) : Type 0 where
   pub rose : Rose e.out.faults e.out'.faults
-  pub steady : e.shelf'.faults ≡ e.shelf.faults
+  pub loads : e.shelf'.loads ≡ e.shelf.loads
+  pub stores : e.shelf'.stores ≡ e.shelf.stores
   pub stored : e.shelf'.files ≡ files_with job.output e.shelf.files
   pub count : ℕ
   pub printed : Appends e.out.written e.out'.written (take count job.text)
 
 -- a file is stored, or refused
-abbrev pub Stores : Output → Option FilesByName → ℕ → Option FilesByName → ℕ → Result (Unit {0}) Refusal → Type 0
-Stores o files faults files' faults' (Ok done) = (faults' ≡ faults) × (files' ≡ files_with (Some o) files)
-Stores o files faults files' faults' (Err refusals.Usage) = ⊥
-Stores o files faults files' faults' (Err refusals.Read) = ⊥
-Stores o files faults files' faults' (Err refusals.Write) = Rose faults faults' × (files' ≡ files)
-Stores o files faults files' faults' (Err refusals.OutOfMemory) = (faults' ≡ faults) × (files' ≡ files)
-Stores o files faults files' faults' (Err (refusals.Source line fault)) = ⊥
-Stores o files faults files' faults' (Err refusals.TooLong) = ⊥
+abbrev pub Stores : Output → Shelved → Shelved → Result (Unit {0}) Refusal → Type 0
+Stores o s s' (Ok done) = (s'.files ≡ files_with (Some o) s.files) × (s'.loads ≡ s.loads) × (s'.stores ≡ s.stores)
+Stores o s s' (Err refusals.Usage) = ⊥
+Stores o s s' (Err refusals.Read) = ⊥
+Stores o s s' (Err refusals.Write) = FailsStore s s'
+Stores o s s' (Err refusals.OutOfMemory) = IsKept s s'
+Stores o s s' (Err (refusals.Source line fault)) = ⊥
+Stores o s s' (Err refusals.TooLong) = ⊥
 
 -- a job is finished, or refused
 abbrev pub Finishes : Job → Ends → Result (Unit {0}) Refusal → Type 0
 Finishes job e (Ok done) = Done job e
 Finishes job e (Err refusals.Usage) = ⊥
 Finishes job e (Err refusals.Read) = ⊥
-Finishes job e (Err refusals.Write) = Unstored e ⊎ Unprinted job e
-Finishes job e (Err refusals.OutOfMemory) = (e.shelf'.faults ≡ e.shelf.faults) × Leaves e
+Finishes job e (Err refusals.Write) = Unstored job e ⊎ Unprinted job e
+Finishes job e (Err refusals.OutOfMemory) = Leaves e
 Finishes job e (Err (refusals.Source line fault)) = ⊥
 Finishes job e (Err refusals.TooLong) = ⊥
 
--- when a refusal of a command comes, and what it leaves
+-- When a refusal of a command comes, and what it leaves. A load is blamed only where the command loads a file, and a
+-- store only where its job stores one.
 abbrev pub Refuses : Command → Ends → Refusal → Type 0
 Refuses c e refusals.Usage = ⊥
-Refuses c e refusals.Read = Rose e.shelf.faults e.shelf'.faults × Leaves e
-Refuses c e refusals.Write = (job : Job) × Makes c e.shelf.files job × (Unstored e ⊎ Unprinted job e)
-Refuses c e refusals.OutOfMemory = IsShort c e.shelf.files × (e.shelf'.faults ≡ e.shelf.faults) × Leaves e
-Refuses c e (refusals.Source line fault) = HasFault c e.shelf.files line fault × (e.shelf'.faults ≡ e.shelf.faults) × Leaves e
-Refuses c e refusals.TooLong = IsLong c e.shelf.files × (e.shelf'.faults ≡ e.shelf.faults) × Leaves e
+Refuses c e refusals.Read = IsSome (loaded_by c) × Unloaded e
+Refuses c e refusals.Write = (job : Job) × Makes c e.shelf.files job × (Unstored job e ⊎ Unprinted job e)
+Refuses c e refusals.OutOfMemory = IsShort c e.shelf.files × Leaves e
+Refuses c e (refusals.Source line fault) = HasFault c e.shelf.files line fault × Leaves e
+Refuses c e refusals.TooLong = IsLong c e.shelf.files × Leaves e
 
 -- a command has run, or is refused
 abbrev pub Runs : Command → Ends → Result (Unit {0}) Refusal → Type 0

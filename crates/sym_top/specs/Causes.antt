@@ -1,9 +1,8 @@
--- Where the shelf tells its files, the causes of the answers exclude each other: so an answer that isn't blamed on a
--- count of faults or on want of memory comes exactly where its cause holds.
-use Rattle.std.specs.Prelude.{◌≡◌, ◌⊎◌, ℕ, ◌<◌, List, Option, Some}
+-- When an answer comes. Where the shelf tells its files, the causes of the answers exclude each other: so an answer that
+-- isn't blamed on a count of faults or on want of memory comes exactly where its cause holds.
+use Rattle.std.specs.Prelude.{◌≡◌, ◌⊎◌, ℕ, Option, Some, IsSome}
 use Rattle.sym_io.specs.ByName.{FilesByName}
 use Rattle.sym_io.specs.Causes.{Rose}
-use Rattle.sym_top.specs.Calls.{Ends, Ended}
 use Rattle.sym_top.specs.CommandLine.{Command}
 use Rattle.sym_top.specs.Jobs.{Job, Makes, IsLong, HasFault}
 use Rattle.sym_top.specs.declared.exit.Exit.{Exit}
@@ -15,30 +14,22 @@ pub record OneCause : Type 0 where
   pub no_long_fault : (c : Command) (held : FilesByName) (line fault : ℕ) → HasFault c (Some held) line fault → IsLong c (Some held) → ⊥
   pub first_fault : (c : Command) (held : FilesByName) (line line' fault fault' : ℕ) → HasFault c (Some held) line fault → HasFault c (Some held) line' fault' → (line ≡ line') × (fault ≡ fault')
 
--- no count of faults rose
-pub record NothingFailed (e : Ends) : Type 0 where
-  pub shelf : Rose e.shelf.faults e.shelf'.faults → ⊥
-  pub out : Rose e.out.faults e.out'.faults → ⊥
+-- the count didn't rise, and doesn't stand at its end
+abbrev pub NoRise : ℕ → ℕ → Type 0
+NoRise before now = Rose before now → ⊥
 
 -- the status is this one, or want of memory
 abbrev pub IsOnly : Exit → Exit → Type 0
 IsOnly exit wanted = (exit ≡ wanted) ⊎ (exit ≡ exits.OutOfMemory)
 
--- the status by what the files are
-pub record IsExact (c : Command) (held : FilesByName) (exit : Exit) : Type 0 where
-  pub done : (job : Job) → Makes c (Some held) job → IsOnly exit exits.Ok
-  pub bad_source : (line fault : ℕ) → HasFault c (Some held) line fault → IsOnly exit exits.BadSource
-  pub too_long : IsLong c (Some held) → exit ≡ exits.TooLong
+-- `BadSource` comes only where the source has a first fault. Where it has one, the shelf tells it and no load failed,
+-- the status is `BadSource` or want of memory.
+pub record BadSourceExactly (c : Command) (files : Option FilesByName) (loads loads' : ℕ) (exit : Exit) : Type 0 where
+  pub only : exit ≡ exits.BadSource → (line : ℕ) × ((fault : ℕ) × HasFault c files line fault)
+  pub always : (line fault : ℕ) → HasFault c files line fault → IsSome files → NoRise loads loads' → IsOnly exit exits.BadSource
 
--- Where the files are told and nothing failed, an ended command's status is the one that its files want.
-abbrev pub ExactStatus : Type 0
-ExactStatus = (c : Command) (held : FilesByName) (e : Ends) (written : Option (List ℕ)) (faults : ℕ) (written' : Option (List ℕ)) (faults' : ℕ) (exit : Exit) → e.shelf.files ≡ Some held → NothingFailed e → Ended c e written faults written' faults' exit → IsExact c held exit
-
--- a count of faults that rose shows in the status
-pub record ShowsFaults (e : Ends) (exit : Exit) : Type 0 where
-  pub shelf : e.shelf.faults < e.shelf'.faults → (exit ≡ exits.ReadFault) ⊎ (exit ≡ exits.WriteFault)
-  pub out : e.out.faults < e.out'.faults → exit ≡ exits.WriteFault
-
--- No other status, and no want of memory, stands in place of a load, a store or a write that failed.
-abbrev pub FaultsShow : Type 0
-FaultsShow = (c : Command) (e : Ends) (written : Option (List ℕ)) (faults : ℕ) (written' : Option (List ℕ)) (faults' : ℕ) (exit : Exit) → Ended c e written faults written' faults' exit → ShowsFaults e exit
+-- `TooLong` comes only where the command's file is too long. Where it is, the shelf tells it and no load failed, the
+-- status is `TooLong`.
+pub record TooLongExactly (c : Command) (files : Option FilesByName) (loads loads' : ℕ) (exit : Exit) : Type 0 where
+  pub only : exit ≡ exits.TooLong → IsLong c files
+  pub always : IsLong c files → IsSome files → NoRise loads loads' → exit ≡ exits.TooLong

@@ -1,8 +1,8 @@
 //! What a command has made of its files: the text to be printed, and the file to be stored before it.
 ghost use Rattle.std.specs.Option.{option_map};
-ghost use Rattle.std.specs.Prelude.{◌≡◌, ◌≤◌, ℕ};
+ghost use Rattle.std.specs.Prelude.{◌≡◌, ◌≤◌, ℕ, IsNone};
 ghost use Rattle.sym_io.specs.ByName.{with_file};
-ghost use Rattle.sym_top.specs.Calls.{Finishes, ends, Stores};
+ghost use Rattle.sym_top.specs.Calls.{Finishes, ends, shelved, sunk, Stores};
 ghost use Rattle.sym_top.specs.Jobs.{Job as Planned, Output as File};
 
 use crate::refusal::Refusal;
@@ -42,8 +42,9 @@ impl<'a> Model for Job<'a> {
 
 /// Stores the job's file, and then prints its text.
 pub fn finish<F: Shelf, O: Sink>(job: &Job<'_>, shelf: &mut F, out: &mut O) -> Result<(), Refusal>
-    ensures { Finishes job.now (ends (F.files shelf.old) (F.faults shelf.old) (F.files shelf.new) (F.faults shelf.new)
-        (O.written out.old) (O.faults out.old) (O.written out.new) (O.faults out.new)) result }
+    ensures no_file { IsNone job.now.output → shelf.new ≡ shelf.old }
+    ensures finishes { Finishes job.now (ends (shelved (F.files shelf.old) (F.load_faults shelf.old) (F.store_faults shelf.old)) (shelved (F.files shelf.new) (F.load_faults shelf.new) (F.store_faults shelf.new))
+        (sunk (O.written out.old) (O.faults out.old)) (sunk (O.written out.new) (O.faults out.new))) result }
 {
     if let Some(output) = &job.output {
         store(output, shelf)?;
@@ -55,7 +56,7 @@ pub fn finish<F: Shelf, O: Sink>(job: &Job<'_>, shelf: &mut F, out: &mut O) -> R
 }
 
 fn store<F: Shelf>(output: &Output<'_>, shelf: &mut F) -> Result<(), Refusal>
-    ensures { Stores output.now (F.files shelf.old) (F.faults shelf.old) (F.files shelf.new) (F.faults shelf.new) result }
+    ensures { Stores output.now (shelved (F.files shelf.old) (F.load_faults shelf.old) (F.store_faults shelf.old)) (shelved (F.files shelf.new) (F.load_faults shelf.new) (F.store_faults shelf.new)) result }
 {
     match shelf.store(output.name, output.bytes.as_slice()) {
         Ok(()) => Ok(()),

@@ -14,6 +14,6 @@ mod words;
 
 pub use answer::answer_alone;
 pub use exit::Exit;
-pub use laws::{exact_status, faults_show, one_cause};
+pub use laws::one_cause;
 pub use straight_run::{Straight, straight};
 pub use words::{refuse_words, words_of};

@@ -1,9 +1,10 @@
 //! What each command makes of its files.
-ghost use Rattle.std.specs.Prelude.{◌≡◌, ◌≤◌, length, IfOk, MatchResult};
+ghost use Rattle.std.specs.Prelude.{◌≡◌, ◌≤◌, ℕ, length, IfOk, MatchResult};
 ghost use Rattle.sym_top.specs.Asked.{asked};
-ghost use Rattle.sym_top.specs.CommandLine.{asm as Assembling, list as Listing};
+ghost use Rattle.sym_top.specs.Calls.{shelved};
+ghost use Rattle.sym_top.specs.CommandLine.{one as Reading, asm as Assembling, list as Listing};
 ghost use Rattle.sym_top.specs.Jobs.{IsAssembly};
-ghost use Rattle.sym_top.specs.Making.{shelved, Loads, Prepares, Blames, IsImageJob, RefusesSource};
+ghost use Rattle.sym_top.specs.Making.{Loads, Prepares, Blames, IsImageJob, RefusesSource};
 
 use crate::commands::Command;
 use crate::job::{Job, Output};
@@ -20,7 +21,7 @@ const FILE_LIMIT: u32 = 4_194_304;
 
 /// The whole of a file.
 fn load<F: Shelf>(name: &str, shelf: &mut F) -> Result<Bytes, Refusal>
-    ensures { Loads name.now (shelved (F.files shelf.old) (F.faults shelf.old)) (shelved (F.files shelf.new) (F.faults shelf.new)) result }
+    ensures { Loads name.now (shelved (F.files shelf.old) (F.load_faults shelf.old) (F.store_faults shelf.old)) (shelved (F.files shelf.new) (F.load_faults shelf.new) (F.store_faults shelf.new)) result }
 {
     match shelf.load(name, FILE_LIMIT) {
         Ok(bytes) => Ok(bytes),
@@ -71,7 +72,7 @@ fn assemble_file<'a, F: Shelf>(
     out: &'a str,
     shelf: &mut F,
 ) -> Result<Job<'a>, Refusal>
-    ensures { Prepares (Assembling file.now out.now) (shelved (F.files shelf.old) (F.faults shelf.old)) (shelved (F.files shelf.new) (F.faults shelf.new)) result }
+    ensures { Prepares (Assembling file.now out.now) (shelved (F.files shelf.old) (F.load_faults shelf.old) (F.store_faults shelf.old)) (shelved (F.files shelf.new) (F.load_faults shelf.new) (F.store_faults shelf.new)) result }
 {
     let source = load(file, shelf)?;
     assembly(alloc, source.as_slice(), out)
@@ -79,7 +80,7 @@ fn assemble_file<'a, F: Shelf>(
 
 /// Loads the image of `list`, and lists it.
 fn list_image<'a, F: Shelf>(alloc: Global, file: &str, shelf: &mut F) -> Result<Job<'a>, Refusal>
-    ensures { Prepares (Listing file.now) (shelved (F.files shelf.old) (F.faults shelf.old)) (shelved (F.files shelf.new) (F.faults shelf.new)) result }
+    ensures { Prepares (Listing file.now) (shelved (F.files shelf.old) (F.load_faults shelf.old) (F.store_faults shelf.old)) (shelved (F.files shelf.new) (F.load_faults shelf.new) (F.store_faults shelf.new)) result }
 {
     let image = load(file, shelf)?;
     let text = list_file(alloc, image.as_slice())?;
@@ -92,7 +93,8 @@ pub fn job_of<'a, F: Shelf>(
     command: Command<'a>,
     shelf: &mut F,
 ) -> Result<Job<'a>, Refusal>
-    ensures { Prepares (asked command.entry) (shelved (F.files shelf.old) (F.faults shelf.old)) (shelved (F.files shelf.new) (F.faults shelf.new)) result }
+    ensures no_file { (lba : ℕ) → asked command.entry ≡ Reading lba → shelf.new ≡ shelf.old }
+    ensures prepares { Prepares (asked command.entry) (shelved (F.files shelf.old) (F.load_faults shelf.old) (F.store_faults shelf.old)) (shelved (F.files shelf.new) (F.load_faults shelf.new) (F.store_faults shelf.new)) result }
 {
     match command {
         Command::One { lba } => {

@@ -34,12 +34,10 @@ const IMAGE: &[u8] = &[0x40, 0, 0, 0x60, 0, 0, 0, 0];
 const PRINTED: &[u8] = b"words 2\n";
 /// The listing of four bytes that are one word, and a fifth.
 const LISTED: &[u8] = b"00000000  60000040  .word 0x60000040\n00000004  07  .byte 0x7\n";
-/// Sources with a fault, and what is said of them.
+/// A source with a fault, and what is said of it.
 const TWICE: &[u8] = b"a:\na:";
 
 const TWICE_SAID: &[u8] = b"bad source line 2 fault 4\n";
-
-const TOKEN_SAID: &[u8] = b"bad source line 1 fault 1\n";
 
 /// A row in which all goes well.
 fn good<'a>(words: &'a [&'a str], file: &'a [u8], printed: &'a [u8]) -> Row<'a> {
@@ -113,19 +111,16 @@ fn files_are_read_and_stored_or_refused(rt: HostRuntime) -> Result<(), Fail> {
         },
         Row {
             stored: Some(b""),
-            ..good(ASM, b"; \xff\n", b"words 0\n")
-        },
-        Row {
-            stored: Some(b""),
             ..good(ASM, most, b"words 0\n")
         },
         good(LIST, &[0x40, 0, 0, 0x60, 7], LISTED),
-        good(LIST, b"", b""),
-        // a source with a fault
+        // a source with a fault, also where standard error fails
         refused(ASM, TWICE, &[], Exit::BadSource, TWICE_SAID),
-        refused(ASM, b"\xff", &[], Exit::BadSource, TOKEN_SAID),
+        Row {
+            err: deaf,
+            ..refused(ASM, TWICE, &[], Exit::BadSource, b"")
+        },
         // a load fails, or its file is missing; the store fails
-        refused(ASM, SOURCE, &[1], Exit::ReadFault, b"read fault\n"),
         refused(LIST, IMAGE, &[1], Exit::ReadFault, b"read fault\n"),
         refused(
             &["asm", "c", "b"],
@@ -134,31 +129,9 @@ fn files_are_read_and_stored_or_refused(rt: HostRuntime) -> Result<(), Fail> {
             Exit::ReadFault,
             b"read fault\n",
         ),
-        refused(&["list", "c"], IMAGE, &[], Exit::ReadFault, b"read fault\n"),
         refused(ASM, SOURCE, &[2], Exit::WriteFault, b"write fault\n"),
         // a file beyond the limit
-        refused(ASM, long.as_slice(), &[], Exit::TooLong, b"too long\n"),
         refused(LIST, long.as_slice(), &[], Exit::TooLong, b"too long\n"),
-        // words that are no command
-        refused(&["asm", "a"], SOURCE, &[], Exit::Usage, b"usage\n"),
-        refused(
-            &["asm", "a", "b", "c"],
-            SOURCE,
-            &[],
-            Exit::Usage,
-            b"usage\n",
-        ),
-        refused(&["list"], IMAGE, &[], Exit::Usage, b"usage\n"),
-        refused(&["list", "a", "b"], IMAGE, &[], Exit::Usage, b"usage\n"),
-        // a failing standard error changes nothing
-        Row {
-            err: deaf,
-            ..refused(ASM, TWICE, &[], Exit::BadSource, b"")
-        },
-        Row {
-            err: deaf,
-            ..refused(ASM, SOURCE, &[2], Exit::WriteFault, b"")
-        },
     ];
     for row in &rows {
         check(&rt, alloc, row)?;

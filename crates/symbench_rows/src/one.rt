@@ -24,20 +24,7 @@ fn a_read_past_the_end_is_a_check_condition(rt: HostRuntime) -> Result<(), Fail>
 
 #[test]
 fn words_that_are_no_command_are_usage(rt: HostRuntime) -> Result<(), Fail> {
-    let rows: [&[&str]; 12] = [
-        &[],
-        &["one"],
-        &["one", ""],
-        &["one", "00"],
-        &["one", "03"],
-        &["one", "+3"],
-        &["one", "-3"],
-        &["one", " 3"],
-        &["one", "4294967296"],
-        &["one", "3", "4"],
-        &["One", "3"],
-        &["--help"],
-    ];
+    let rows: [&[&str]; 4] = [&[], &["one", "03"], &["one", "4294967296"], &["asm", "a"]];
     for words in rows {
         let left = run(rt.alloc(), words, WHOLE, WHOLE)?;
         assert_eq!(rt; left.exit, Exit::Usage);
@@ -73,12 +60,5 @@ fn a_failing_sink_is_a_write_fault(rt: HostRuntime) -> Result<(), Fail> {
         assert_eq!(rt; left.out.bytes(), &whole.out.bytes()[..count]);
         assert_eq!(rt; left.err.bytes(), b"write fault\n".as_slice());
     }
-    // a failing standard error changes nothing
-    let deaf = Sinking {
-        most: 1,
-        failing: Some(1),
-    };
-    let left = run(rt.alloc(), &["one"], WHOLE, deaf)?;
-    assert_eq!(rt; left.exit, Exit::Usage);
     Ok(())
 }

@@ -1,14 +1,32 @@
-use Rattle.std.proofs.Common.{◌≡◌, refl, inl, inr}
 use Rattle.sym_top.specs.Asked.{asked}
-use Rattle.sym_top.proofs.OneCommand.{one_command, refuses-answered}
+use Rattle.sym_top.specs.Calls.{ends, shelved, sunk}
+use Rattle.sym_top.specs.CommandLine.{one}
+use Rattle.sym_top.proofs.Exact.{caused, spelled}
+use Rattle.sym_top.proofs.OneCommand.{one_command}
 use Rattle.sym_top.proofs.answer.answer_alone.Goals as goal
 
-pub returns-in-Ok-clause-answer : goal.returns-in-Ok-clause-answer
-returns-in-Ok-clause-answer g c = λ d s.
-    let e : asked c.in-Some.command ≡ d = one_command c.args.words.now (asked c.in-Some.command) d c.in-Some.ensures.found s in
-    rw (← e) (inl (c.in-Ok.ensures, refl, refl, refl))
-
-pub returns-in-Err-clause-answer : goal.returns-in-Err-clause-answer
-returns-in-Err-clause-answer g c = λ d s.
-    let e : asked c.in-Some.command ≡ d = one_command c.args.words.now (asked c.in-Some.command) d c.in-Some.ensures.found s in
-    rw (← e) (inr (c.say-in-Err.result, refuses-answered (asked c.in-Some.command) _ c.in-Err.refusal c.say-in-Err.result c.say-in-Err.ensures.answered c.in-Err.ensures, c.exit-in-Err.ensures, c.say-in-Err.ensures.said))
+pub returns-in-Some : goal.returns-in-Some
+returns-in-Some g c =
+    let words = c.args.words.now in
+    let command = asked c.in-Some.command in
+    let found = c.in-Some.ensures.found in
+    let k = caused command
+    (ends (shelved (g.F.Shelf.files c.args.shelf.now) (g.F.Shelf.load_faults c.args.shelf.now) (g.F.Shelf.store_faults c.args.shelf.now))
+    (shelved (g.F.Shelf.files c.serve.new.shelf) (g.F.Shelf.load_faults c.serve.new.shelf) (g.F.Shelf.store_faults c.serve.new.shelf))
+    (sunk (g.O.Sink.written c.args.out.now) (g.O.Sink.faults c.args.out.now)) (sunk (g.O.Sink.written c.serve.new.out) (g.O.Sink.faults c.serve.new.out)))
+    (g.E.Sink.written c.args.err.now) (g.E.Sink.faults c.args.err.now) (g.E.Sink.written c.serve.new.err) (g.E.Sink.faults c.serve.new.err) c.serve.result c.serve.ensures.answer in
+    record {
+      usage = (λ u. absurd (k.no_usage u), λ none. absurd (none command found));
+      unasked = λ u. absurd (k.no_usage u);
+      unasked_line = λ u. absurd (k.no_usage u);
+      no_file = λ lba s. (k.no_read lba (one_command words command (one lba) found s), c.serve.ensures.no_file lba (one_command words command (one lba) found s));
+      read_fault = k.read_fault;
+      write_fault = spelled _ words command found k.write_fault;
+      load_shows = k.load_shows;
+      store_shows = k.store_shows;
+      write_shows = k.write_shows;
+      bad_source = spelled _ words command found k.bad_source;
+      too_long = spelled _ words command found k.too_long;
+      complete = spelled _ words command found k.complete;
+      answer = spelled _ words command found c.serve.ensures.answer;
+    }
