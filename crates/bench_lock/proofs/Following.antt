@@ -2,7 +2,6 @@
 use Rattle.std.proofs.Common.{◌≡◌, ◌≢◌, ℕ, zero, suc, ◌+◌, ◌-◌, ◌≤◌, ◌<◌, eqb, List, [], ◌∷◌, ◌++◌, sym, refl, ap, ◌∙◌, subst, ⊎_elim, arith, Bool, true, false, cond, not, ◌||◌, eq-eqb, eqb-true, length, ltb, append-nil, append_assoc}
 use mathlib.Core.Logic.{dite}
 use native.Mathlib.Decide.{ℕ_discrete}
-use Rattle.bench_lock.specs.declared.entry.Entry.{Entry}
 use Rattle.bench_lock.specs.declared.view.View.{View}
 use Rattle.bench_lock.specs.Log.{has, without, added, Begins}
 use Rattle.bench_lock.specs.Views.{Owns, HasAllCallers, Follows, first_view, left_view, right_view, joined_view, numbers_from}
@@ -45,13 +44,13 @@ Begins-added es true e = (e ∷ [], refl)
 Begins-added es false e = ([], sym (append-nil es))
 
 module _ {O T : Type 0} where
-  pub Follows-stepped : {Y : Type 0} → (allows : O → List (Entry T) → ℕ → T → Y → Type 0) (records : O → Y → Bool) (o : O) (u v w : View O T) (x : T) (reply : Y) (front : ℕ)
+  pub Follows-stepped : {Y : Type 0} → (allows : O → List (ℕ × T) → ℕ → T → Y → Type 0) (records : O → T → Y → Bool) (o : O) (u v w : View O T) (x : T) (reply : Y) (front : ℕ)
       → Follows u v → Stepped allows records o v w x reply front → Follows u w
   Follows-stepped allows records o u v w x reply front f s = record {
     opening = ap (λ (z : View O T). z.opening) s.else_same ∙ f.opening;
     callers = ap (λ (z : View O T). z.callers) s.else_same ∙ f.callers;
     caller = ap (λ (z : View O T). z.caller) s.else_same ∙ f.caller;
-    seen = subst (λ (es : List (Entry T)). Begins u.seen es) (sym s.seen_is) (Begins-on u.seen s.before _ (Begins-on u.seen v.seen s.before f.seen s.begins) (Begins-added s.before _ _));
+    seen = subst (λ (es : List (ℕ × T)). Begins u.seen es) (sym s.seen_is) (Begins-on u.seen s.before _ (Begins-on u.seen v.seen s.before f.seen (s.others.0, s.others.1)) (Begins-added s.before _ _));
     owns = λ y h. subst (λ (z : View O T). Owns z y) (sym s.else_same) (f.owns y h);
   }
 
@@ -78,7 +77,7 @@ module _ {O T : Type 0} where
   }
 
   -- the first seat has all callers again where what it handed over was joined
-  pub all_of_first : (o : O) (es : List (Entry T)) (n : ℕ) (v w : View O T) → v ≡ first_view o es n → Follows v w → HasAllCallers w
+  pub all_of_first : (o : O) (es : List (ℕ × T)) (n : ℕ) (v w : View O T) → v ≡ first_view o es n → Follows v w → HasAllCallers w
   all_of_first o es n v w is f x lt =
       let callers : w.callers ≡ n = f.callers ∙ ap (λ (u : View O T). u.callers) is in
       f.owns x (subst (λ (u : View O T). Owns u x) (sym is) (dite (ℕ_discrete x 0)

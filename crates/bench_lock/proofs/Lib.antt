@@ -1,4 +1,5 @@
 pub mod Numbers
+pub mod Own
 pub mod Seatwise
 pub mod SeatSteps
 pub mod Keeps

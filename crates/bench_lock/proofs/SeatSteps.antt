@@ -11,16 +11,16 @@ use lib.ListN.{get_elem?}
 use Rattle.atomic_table.specs.Table.{State, Me, step, Act, keeps, takes, gives, Valid, stepped, homes_after, carried_after, Allows, Splits, Joins, Final, Seen, rest}
 use Rattle.atomic_table.specs.Table as Table
 use Rattle.atomic_table.proofs.Lists.{set_here, set_else, set_again, at_longer}
-use Rattle.bench_lock.specs.declared.entry.Entry.{Entry}
 use Rattle.bench_lock.specs.declared.view.View.{View}
 use Rattle.bench_lock.specs.Log.{entries_of, Begins, has, entry, added}
 use Rattle.bench_lock.specs.Rule.{ticket_count, spare_count}
 use Rattle.bench_lock.proofs.Seatwise.{SeatOk, Homed, Kept}
-use Rattle.bench_lock.specs.Views.{Rests, with_ticket, with_turn, with_list, without_ticket, left_view, right_view, merged_view, spent_view, longer, shorter, compared_view, first_view, Compares, Draws, Takes, Looks, Counts, Passes}
+use Rattle.bench_lock.specs.Views.{IsOwn, Rests, with_ticket, with_turn, with_list, without_ticket, left_view, right_view, merged_view, spent_view, longer, shorter, compared_view, first_view, Compares, Knows, Draws, Takes, Looks, Counts, Passes}
 use Rattle.bench_lock.specs.Stepped.{Stepped}
+use Rattle.bench_lock.proofs.Own.{own_to, others_since, own_longer, none_before}
 use Rattle.bench_lock.proofs.Numbers.{draw_mod, pass_mod, first_place, dec_zero, total_set, total_le, inside, one_view, seats_set, prefix_of, total-append, at_end, true_false, has-append, has_one, has_without, without_less, not_retired, not_retired', or_cases, has_below, length-numbers_from, drop_all}
 
-module _ {M O T : Type 0} (opening : M → O) (list : M → List (Entry T)) (o : O) (base callers : ℕ) where
+module _ {M O T : Type 0} (opening : M → O) (list : M → List (ℕ × T)) (o : O) (base callers : ℕ) where
   abbrev V : Type 0
   V = View O T
 
@@ -41,7 +41,7 @@ module _ {M O T : Type 0} (opening : M → O) (list : M → List (Entry T)) (o :
       → Goal id me i f then views ws' hs' → Goal id me i f then views ws hs
   shaped id me i f then views ws ws' hs hs' e h g = subst (λ (z : List ℕ × List (maybe.Option M)). Goal id me i f then views z.0 z.1) (λ k. (sym e k, sym h k)) g
 
-  homed_stays : (home : maybe.Option M) (log : List (Entry T)) (views : List V) (id : ℕ) (v w : V) → get_elem? views id ≡ some v → v.turn ≡ false
+  homed_stays : (home : maybe.Option M) (log : List (ℕ × T)) (views : List V) (id : ℕ) (v w : V) → get_elem? views id ≡ some v → v.turn ≡ false
       → Homed opening list o log views home → Homed opening list o log (set views id w) home
   homed_stays (some m) log views id v w at off h = h
   homed_stays none log views id v w at off h = let ne : h.0 ≢ id = λ e. let same : h.1.turn ≡ v.turn = ap (λ (u : V). u.turn) (one_view views id h.0 v h.1 at h.2 e) in cc (sym h.3 ∙ (same ∙ off)) in
@@ -91,6 +91,7 @@ module _ {M O T : Type 0} (opening : M → O) (list : M → List (Entry T)) (o :
               spare = me.spare;
               retired = me.retired;
               apart = me.apart;
+              known = me.known;
             })
             (λ j u ne there. let ok = r.seats j u there in record {
               place = λ on. let p = ok.place on in (p.0, (let lt = p.1 in omega arith), queued_before r.out r.holder id p.0 p.1 ∙ p.2, p.3);
@@ -103,6 +104,7 @@ module _ {M O T : Type 0} (opening : M → O) (list : M → List (Entry T)) (o :
               spare = ok.spare;
               retired = ok.retired;
               apart = ok.apart;
+              known = ok.known;
             });
       } in
       shaped id v 0 (λ n. (n + 1) % 2 ^ 64) (Draws (step slots 0 1 0 none) v) s.views s.words (r.next ∷ r.serving ∷ length r.log ∷ []) s.homes (r.home ∷ []) r.words r.homes
@@ -115,13 +117,13 @@ module _ {M O T : Type 0} (opening : M → O) (list : M → List (Entry T)) (o :
   few_out s r = let l = total_le ticket_count ticket_le s.views in let a = r.few.0 in let b = r.few.1 in let c = r.few.2 in omega arith
 
   -- the same where the seat keeps its turn
-  homed_same : (home : maybe.Option M) (log : List (Entry T)) (views : List V) (id : ℕ) (v w : V) → get_elem? views id ≡ some v → w.turn ≡ v.turn → Homed opening list o log views home → Homed opening list o log (set views id w) home
+  homed_same : (home : maybe.Option M) (log : List (ℕ × T)) (views : List V) (id : ℕ) (v w : V) → get_elem? views id ≡ some v → w.turn ≡ v.turn → Homed opening list o log views home → Homed opening list o log (set views id w) home
   homed_same (some m) log views id v w at same h = h
   homed_same none log views id v w at same h = dite (ℕ_discrete h.0 id)
       (λ e. (id, w, set_here views id w (inside views id v at), same ∙ (ap (λ (u : V). u.turn) (sym (one_view views id h.0 v h.1 at h.2 e)) ∙ h.3)))
       (λ ne. (h.0, h.1, set_else views id h.0 w ne ∙ h.2, h.3))
 
-  homed_longer : (home : maybe.Option M) (log : List (Entry T)) (views : List V) (w : V) → Homed opening list o log views home → Homed opening list o log (views ++ w ∷ []) home
+  homed_longer : (home : maybe.Option M) (log : List (ℕ × T)) (views : List V) (w : V) → Homed opening list o log views home → Homed opening list o log (views ++ w ∷ []) home
   homed_longer (some m) log views w h = h
   homed_longer none log views w h = (h.0, h.1, at_longer views (w ∷ []) h.0 h.1 h.2, h.3)
 
@@ -151,15 +153,11 @@ module _ {M O T : Type 0} (opening : M → O) (list : M → List (Entry T)) (o :
       let q : theirs.0 ≡ 0 = first_place r.serving theirs.0 r.numbered.1 (let lt = theirs.1 in omega arith) (sym (b.turn turn).1 ∙ theirs.3) in
       sym theirs.2 ∙ (ap r.holder (q ∙ sym p) ∙ mine.2)
 
-  at_least : {a b c d : ℕ} → a ≡ b → c ≡ d → a ≤ c → b ≤ d
-  at_least p q le = omega arith
-
-  looks_on : (slots id : ℕ) (v : Sat) → v.0.has_ticket ≡ true → v.0.turn ≡ false → (s : St) → (r : K s) → get_elem? s.views id ≡ some v.0
-      → (b : Bool) → (eqb r.serving v.0.ticket) ≡ b
-      → Goal id v 1 (λ n. n) (Looks opening list (step slots 1 0 0 none) v) s.views (r.next ∷ r.serving ∷ length r.log ∷ []) (r.home ∷ [])
-  looks_on slots id v on off s r at false is =
-      let same : set s.views id v.0 ≡ s.views = set_again s.views id v.0 at in
-      let new : K record { words = r.next ∷ r.serving ∷ length r.log ∷ []; homes = r.home ∷ []; views = set s.views id v.0 } = subst (λ (vs : List V). K record { words = r.next ∷ r.serving ∷ length r.log ∷ []; homes = r.home ∷ []; views = vs }) (sym same) record {
+  -- the rule where the seat only reads a word
+  unchanged : (s : St) (r : K s) (id : ℕ) (v : V) → get_elem? s.views id ≡ some v → K record { words = r.next ∷ r.serving ∷ length r.log ∷ []; homes = r.home ∷ []; views = set s.views id v }
+  unchanged s r id v at =
+      let same : set s.views id v ≡ s.views = set_again s.views id v at in
+      subst (λ (vs : List V). K record { words = r.next ∷ r.serving ∷ length r.log ∷ []; homes = r.home ∷ []; views = vs }) (sym same) record {
         next = r.next;
         serving = r.serving;
         log = r.log;
@@ -174,8 +172,13 @@ module _ {M O T : Type 0} (opening : M → O) (list : M → List (Entry T)) (o :
         begun = r.begun;
         homed = r.homed;
         seats = r.seats;
-      } in
-      (v.0, keeps, tt, new, rw is refl)
+      }
+
+  looks_on : (slots id : ℕ) (v : Sat) → v.0.has_ticket ≡ true → v.0.turn ≡ false → (s : St) → (r : K s) → get_elem? s.views id ≡ some v.0
+      → (b : Bool) → (eqb r.serving v.0.ticket) ≡ b
+      → Goal id v 1 (λ n. n) (Looks opening list (step slots 1 0 0 none) v) s.views (r.next ∷ r.serving ∷ length r.log ∷ []) (r.home ∷ [])
+  looks_on slots id v on off s r at false is =
+      (v.0, keeps, tt, unchanged s r id v.0 at, rw is refl)
   looks_on slots id v on off s r at true is =
       let served_now : r.serving ≡ v.0.ticket = eqb-true r.serving v.0.ticket is in
       let t = taken s r id v.0 at on off served_now r.home refl r.homed in
@@ -184,6 +187,7 @@ module _ {M O T : Type 0} (opening : M → O) (list : M → List (Entry T)) (o :
       let me = r.seats id v.0 at in
       let live : v.0.live ≡ true = me.live on in
       let w : V = with_turn (list y) v.0 in
+      let own : IsOwn v.0 (list y) = subst (λ (es : List (ℕ × T)). IsOwn v.0 es) (sym t.3) (own_to v.0 base r.log (me.fixed live).1 r.begun (me.caller live).2) in
       let new : K record { words = r.next ∷ r.serving ∷ length r.log ∷ []; homes = none ∷ []; views = set s.views id w } = record {
         next = r.next;
         serving = r.serving;
@@ -203,8 +207,8 @@ module _ {M O T : Type 0} (opening : M → O) (list : M → List (Entry T)) (o :
         begun = r.begun;
         homed = (id, w, set_here s.views id w (inside s.views id v.0 at), refl);
         seats = seats_set (SeatOk {M = M} none r.serving r.out r.log o base callers r.holder r.owner) s.views id w
-            (record { place = me.place; live = me.live; turn = λ _. (on, sym served_now, t.3, refl); seen = ([], sym t.3 ∙ sym (append-nil (list y))); told = me.told; fixed = me.fixed; caller = me.caller; spare = me.spare; retired = me.retired; apart = me.apart })
-            (λ j u ne there. let ok = r.seats j u there in record { place = ok.place; live = ok.live; turn = λ turn. absurd (some-ne-none y (sym here ∙ (ok.turn turn).3)); seen = ok.seen; told = ok.told; fixed = ok.fixed; caller = ok.caller; spare = ok.spare; retired = ok.retired; apart = ok.apart });
+            (record { place = me.place; live = me.live; turn = λ _. (on, sym served_now, t.3, refl); seen = ([], sym t.3 ∙ sym (append-nil (list y))); told = me.told; fixed = me.fixed; caller = me.caller; spare = me.spare; retired = me.retired; apart = me.apart; known = λ _. own })
+            (λ j u ne there. let ok = r.seats j u there in record { place = ok.place; live = ok.live; turn = λ turn. absurd (some-ne-none y (sym here ∙ (ok.turn turn).3)); seen = ok.seen; told = ok.told; fixed = ok.fixed; caller = ok.caller; spare = ok.spare; retired = ok.retired; apart = ok.apart; known = ok.known });
       } in (
         w,
         takes 0 y,
@@ -214,10 +218,9 @@ module _ {M O T : Type 0} (opening : M → O) (list : M → List (Entry T)) (o :
           y,
           (
             refl,
-            subst (λ (es : List (Entry T)). Begins v.0.seen es) (sym t.3) me.seen,
+            others_since v.0 (list y) (me.known live) own (subst (λ (es : List (ℕ × T)). Begins v.0.seen es) (sym t.3) me.seen),
             (me.fixed live).0 ∙ ap (λ (p : O). Some p) (sym t.2),
-            (me.caller live).2 ∙ (λ k. entries_of v.0.caller (drop (sym (me.fixed live).1 k) (sym t.3 k))),
-            at_least (sym (me.fixed live).1) (ap length (sym t.3)) r.begun,
+            own,
           ),
         ),
       )
@@ -228,26 +231,27 @@ module _ {M O T : Type 0} (opening : M → O) (list : M → List (Entry T)) (o :
       (looks_on slots id v on off s r at (eqb r.serving v.0.ticket) refl)
 
   -- entries that others did not make
-  more : (log es : List (Entry T)) (x : ℕ) → base ≤ length log → entries_of x es ≡ [] → entries_of x (drop base (log ++ es)) ≡ entries_of x (drop base log)
-  more log es x le theirs = ap (entries_of x) (drop-append-le base log es le) ∙ (filter-append (λ e. eqb e.caller x) (drop base log) es ∙ (ap (λ l. entries_of x (drop base log) ++ l) theirs ∙ append-nil (entries_of x (drop base log))))
+  more : (log es : List (ℕ × T)) (x : ℕ) → base ≤ length log → entries_of x es ≡ [] → entries_of x (drop base (log ++ es)) ≡ entries_of x (drop base log)
+  more log es x le theirs = ap (entries_of x) (drop-append-le base log es le) ∙ (filter-append (λ (e : ℕ × T). eqb e.0 x) (drop base log) es ∙ (ap (λ l. entries_of x (drop base log) ++ l) theirs ∙ append-nil (entries_of x (drop base log))))
 
   same_held : (y z : M) → let l : List (ℕ × M) = (0, y) ∷ [] in let m : List (ℕ × M) = (0, z) ∷ [] in l ≡ m → y ≡ z
   same_held y z e = ap (λ (l : List (ℕ × M)). (get_or l 0 (0, y)).1) e
 
-  counts_held : (slots id : ℕ) (v : V) (y : M) (es : List (Entry T)) (k : ℕ) → v.live ≡ true → v.turn ≡ true → length (list y) < 2 ^ 32 → list y ≡ v.seen ++ es → k ≡ length es
+  counts_held : (slots id : ℕ) (v : V) (y : M) (es : List (ℕ × T)) (k : ℕ) → v.live ≡ true → v.turn ≡ true → length (list y) < 2 ^ 32 → list y ≡ v.seen ++ es → k ≡ length es
       → entries_of v.caller es ≡ es → ((x : ℕ) → x ≢ v.caller → entries_of x es ≡ []) → Allows K slots id (v, (0, y) ∷ []) 2 (λ n. (n + k) % 2 ^ 64) (Counts opening list (step slots 2 k 0 none) (v, (0, y) ∷ []))
   counts_held slots id v y es k live on short adds many own others s r one at small =
       let me = r.seats id v at in let turn = me.turn on in
-      let longer : list y ≡ r.log ++ es = adds ∙ ap (λ (l : List (Entry T)). l ++ es) turn.2 in
+      let longer : list y ≡ r.log ++ es = adds ∙ ap (λ (l : List (ℕ × T)). l ++ es) turn.2 in
       let w : V = with_list (list y) v in
       let c : ℕ = (length r.log + k) % 2 ^ 64 in
       let count : c ≡ length (list y) = (let l = ap length longer ∙ length-append r.log es in omega arith) in
       let added_is : drop (length v.seen) (list y) ≡ es = ap (drop (length v.seen)) adds ∙ drop-append_seam v.seen es in
-      let keep : (x : ℕ) → x ≢ v.caller → entries_of x (drop base (list y)) ≡ entries_of x (drop base r.log) = λ x ne. ap (λ (l : List (Entry T)). entries_of x (drop base l)) longer ∙ more r.log es x r.begun (others x ne) in
+      let keep : (x : ℕ) → x ≢ v.caller → entries_of x (drop base (list y)) ≡ entries_of x (drop base r.log) = λ x ne. ap (λ (l : List (ℕ × T)). entries_of x (drop base l)) longer ∙ more r.log es x r.begun (others x ne) in
       let all : v.own ++ drop (length v.seen) (list y) ≡ entries_of v.caller (drop base (list y)) =
-      ap (λ (l : List (Entry T)). v.own ++ l) added_is ∙ ((λ i. (me.caller live).2 i ++ sym own i)
-      ∙ (sym (filter-append (λ e. eqb e.caller v.caller) (drop base r.log) es) ∙ (ap (entries_of v.caller) (sym (drop-append-le base r.log es r.begun)) ∙ ap (λ (l : List (Entry T)). entries_of v.caller (drop base l)) (sym longer)))) in
-      let begins : (seen : List (Entry T)) → Begins seen r.log → Begins seen (list y) = λ seen b. (b.0 ++ es, longer ∙ (ap (λ (l : List (Entry T)). l ++ es) b.1 ∙ append_assoc seen b.0 es)) in
+      ap (λ (l : List (ℕ × T)). v.own ++ l) added_is ∙ ((λ i. (me.caller live).2 i ++ sym own i)
+      ∙ (sym (filter-append (λ (e : ℕ × T). eqb e.0 v.caller) (drop base r.log) es) ∙ (ap (entries_of v.caller) (sym (drop-append-le base r.log es r.begun)) ∙ ap (λ (l : List (ℕ × T)). entries_of v.caller (drop base l)) (sym longer)))) in
+      let begins : (seen : List (ℕ × T)) → Begins seen r.log → Begins seen (list y) = λ seen b. (b.0 ++ es, longer ∙ (ap (λ (l : List (ℕ × T)). l ++ es) b.1 ∙ append_assoc seen b.0 es)) in
+      let begun : base ≤ length (list y) = (let b = r.begun in let l = ap length longer ∙ length-append r.log es in omega arith) in
       let new : K record { words = r.next ∷ r.serving ∷ c ∷ []; homes = none ∷ []; views = set s.views id w } = record {
         next = r.next;
         serving = r.serving;
@@ -264,7 +268,7 @@ module _ {M O T : Type 0} (opening : M → O) (list : M → List (Entry T)) (o :
           (let t = total_set spare_count s.views id v w at in let l = length-set s.views id w in let h = r.few.1 in omega arith),
           r.few.2,
         );
-        begun = (let b = r.begun in let l = ap length longer ∙ length-append r.log es in omega arith);
+        begun = begun;
         homed = (id, w, set_here s.views id w (inside s.views id v at), on);
         seats = seats_set (SeatOk {M = M} none r.serving r.out (list y) o base callers r.holder r.owner) s.views id w
             (record {
@@ -278,6 +282,7 @@ module _ {M O T : Type 0} (opening : M → O) (list : M → List (Entry T)) (o :
               spare = λ x h. let a = me.spare x h in (a.0, a.1, a.2, keep x a.2 ∙ a.3, a.4);
               retired = me.retired;
               apart = me.apart;
+              known = λ l. own_to w base (list y) (me.fixed l).1 begun all;
             })
             (λ j u ne there. let ok = r.seats j u there in
             let apart : (x : ℕ) → r.owner x ≡ j → x ≢ v.caller = λ x e is. ne (sym e ∙ (ap r.owner is ∙ (me.caller live).1)) in record {
@@ -291,12 +296,13 @@ module _ {M O T : Type 0} (opening : M → O) (list : M → List (Entry T)) (o :
               spare = λ x h. let a = ok.spare x h in (a.0, a.1, a.2, keep x (apart x a.1) ∙ a.3, a.4);
               retired = ok.retired;
               apart = ok.apart;
+              known = ok.known;
             });
       } in
       shaped id (v, (0, y) ∷ []) 2 (λ n. (n + k) % 2 ^ 64) (Counts opening list (step slots 2 k 0 none) (v, (0, y) ∷ [])) s.views s.words (r.next ∷ r.serving ∷ length r.log ∷ []) s.homes (none ∷ []) r.words (r.homes ∙ ap (λ (h : maybe.Option M). h ∷ []) turn.3)
       (w, keeps, tt, new, λ z e. ap (λ (x : M). let u : V = with_list (list x) v in (u, (0, y) ∷ [])) (same_held y z e))
 
-  pub counts : (slots id : ℕ) (v : Sat) (y : M) (es : List (Entry T)) (k : ℕ) → v.0.live ≡ true → v.0.turn ≡ true → v.1 ≡ (0, y) ∷ [] → length (list y) < 2 ^ 32 → list y ≡ v.0.seen ++ es → k ≡ length es
+  pub counts : (slots id : ℕ) (v : Sat) (y : M) (es : List (ℕ × T)) (k : ℕ) → v.0.live ≡ true → v.0.turn ≡ true → v.1 ≡ (0, y) ∷ [] → length (list y) < 2 ^ 32 → list y ≡ v.0.seen ++ es → k ≡ length es
       → entries_of v.0.caller es ≡ es → ((x : ℕ) → x ≢ v.0.caller → entries_of x es ≡ []) → Allows K slots id v 2 (λ n. (n + k) % 2 ^ 64) (Counts opening list (step slots 2 k 0 none) v)
   counts slots id v y es k live on held short adds many own others =
       subst (λ (l : List (ℕ × M)). Allows K slots id (v.0, l) 2 (λ n. (n + k) % 2 ^ 64) (Counts opening list (step slots 2 k 0 none) (v.0, l))) (sym held) (counts_held slots id v.0 y es k live on short adds many own others)
@@ -332,7 +338,7 @@ module _ {M O T : Type 0} (opening : M → O) (list : M → List (Entry T)) (o :
         begun = r.begun;
         homed = (same, lists ∙ turn.2);
         seats = seats_set (SeatOk {M = M} (some y) with_turn' (r.out - 1) r.log o base callers onward r.owner) s.views id w
-            (record { place = λ no. absurd (cc no); live = λ no. absurd (cc no); turn = λ no. absurd (cc no); seen = me.seen; told = me.told; fixed = me.fixed; caller = me.caller; spare = me.spare; retired = me.retired; apart = me.apart })
+            (record { place = λ no. absurd (cc no); live = λ no. absurd (cc no); turn = λ no. absurd (cc no); seen = me.seen; told = me.told; fixed = me.fixed; caller = me.caller; spare = me.spare; retired = me.retired; apart = me.apart; known = me.known })
             (λ j u ne there. let ok = r.seats j u there in record {
               place = λ on. let p = ok.place on in
                   let later : 0 < p.0 = elim (dec_zero p.0) [ inl z ↦ absurd (ne (sym p.2 ∙ (ap r.holder (z ∙ sym first) ∙ mine.2))) | inr lt ↦ lt ] in
@@ -347,6 +353,7 @@ module _ {M O T : Type 0} (opening : M → O) (list : M → List (Entry T)) (o :
               spare = ok.spare;
               retired = ok.retired;
               apart = ok.apart;
+              known = ok.known;
             });
       } in
       shaped id (v, (0, y) ∷ []) 1 (λ n. (n + 1) % 2 ^ 64) (Passes (step slots 1 1 0 none) (v, (0, y) ∷ [])) s.views s.words (r.next ∷ r.serving ∷ length r.log ∷ []) s.homes (none ∷ []) r.words (r.homes ∙ ap (λ (h : maybe.Option M). h ∷ []) turn.3)
@@ -373,6 +380,7 @@ module _ {M O T : Type 0} (opening : M → O) (list : M → List (Entry T)) (o :
       let left : V = left_view x v in let right : V = right_view x v in
       let me = r.seats id v at in
       let gift = me.spare x mine in
+      let known = me.known rests.0 in
       let owner' : ℕ → ℕ = given x n r.owner in
       let others : List V = set s.views id left in
       let after : List V = others ++ right ∷ [] in
@@ -391,6 +399,7 @@ module _ {M O T : Type 0} (opening : M → O) (list : M → List (Entry T)) (o :
         spare = λ y h. let t = has_without x y v.spare h in let a = me.spare y t.0 in (a.0, given_else x n r.owner y t.1 ∙ a.1, a.2, a.3, a.4);
         retired = λ y h. let a = me.retired y h in (a.0, given_else x n r.owner y (λ is. true_false (sym h ∙ (ap (λ (z : ℕ). has z v.retired) is ∙ gift.4))) ∙ a.1);
         apart = me.apart;
+        known = me.known;
       })
       (λ j u ne there. let ok = r.seats j u there in record {
         place = ok.place;
@@ -403,6 +412,7 @@ module _ {M O T : Type 0} (opening : M → O) (list : M → List (Entry T)) (o :
         spare = λ y h. let a = ok.spare y h in (a.0, apart j ne y a.1, a.2, a.3, a.4);
         retired = λ y h. let a = ok.retired y h in (a.0, apart j ne y a.1);
         apart = ok.apart;
+        known = ok.known;
       }) in
       record {
         next = r.next;
@@ -435,6 +445,7 @@ module _ {M O T : Type 0} (opening : M → O) (list : M → List (Entry T)) (o :
               spare = λ y no. absurd (cc no);
               retired = λ y no. absurd (cc no);
               apart = λ _. refl;
+              known = λ l. (known.0, sym (none_before x v.base v.seen r.log known.0 me.seen (ap (λ (k : ℕ). entries_of x (drop k r.log)) (me.fixed l).1 ∙ gift.3)));
             }))
             (at_end others j right u there);
       }
@@ -449,10 +460,10 @@ module _ {M O T : Type 0} (opening : M → O) (list : M → List (Entry T)) (o :
   moved_else : (other id : ℕ) (owner : ℕ → ℕ) (y j : ℕ) → j ≢ other → owner y ≡ j → moved other id owner y ≡ j
   moved_else other id owner y j ne e = ap (λ (b : Bool). cond b id (owner y)) (ne_eqb (owner y) other (λ is. ne (sym e ∙ is))) ∙ e
 
-  begins_longer : (xs ys log : List (Entry T)) → Begins xs log → Begins ys log → Begins (longer xs ys) log
+  begins_longer : (xs ys log : List (ℕ × T)) → Begins xs log → Begins ys log → Begins (longer xs ys) log
   begins_longer xs ys log a b = elim (ltb (length xs) (length ys)) as (λ t. Begins (cond t ys xs) log) [ true ↦ b | false ↦ a ]
 
-  begins_shorter : (xs ys log : List (Entry T)) → Begins xs log → Begins ys log → Begins (shorter xs ys) log
+  begins_shorter : (xs ys log : List (ℕ × T)) → Begins xs log → Begins ys log → Begins (shorter xs ys) log
   begins_shorter xs ys log a b = elim (ltb (length xs) (length ys)) as (λ t. Begins (cond t xs ys) log) [ true ↦ a | false ↦ b ]
 
   -- of what a seat was told and what it sees, the shorter begins the longer
@@ -479,11 +490,17 @@ module _ {M O T : Type 0} (opening : M → O) (list : M → List (Entry T)) (o :
         begun = r.begun;
         homed = homed_same r.home r.log s.views id v.0 w at refl r.homed;
         seats = seats_set (SeatOk r.home r.serving r.out r.log o base callers r.holder r.owner) s.views id w
-            (record { place = me.place; live = me.live; turn = me.turn; seen = me.seen; told = (r.log, refl); fixed = me.fixed; caller = me.caller; spare = me.spare; retired = me.retired; apart = me.apart })
+            (record { place = me.place; live = me.live; turn = me.turn; seen = me.seen; told = (r.log, refl); fixed = me.fixed; caller = me.caller; spare = me.spare; retired = me.retired; apart = me.apart; known = me.known })
             (λ j u ne there. r.seats j u there);
       } in
       shaped id v 0 (λ n. n) (Compares (step slots 0 0 0 none) v) s.views s.words (r.next ∷ r.serving ∷ length r.log ∷ []) s.homes (r.home ∷ []) r.words r.homes
-      (w, keeps, tt, new, (refl, λ le. prefix_of v.0.told v.0.seen me.told.0 me.seen.0 (sym me.told.1 ∙ me.seen.1) le))
+      (w, keeps, tt, new, (refl, (λ le. prefix_of v.0.told v.0.seen me.told.0 me.seen.0 (sym me.told.1 ∙ me.seen.1) le), me.known))
+
+  -- what a seat has seen has all entries of its own
+  pub knows : (slots id : ℕ) (v : Sat) → Allows K slots id v 0 (λ n. n) (Knows (step slots 0 0 0 none) v)
+  knows slots id v s r one at small =
+      shaped id v 0 (λ n. n) (Knows (step slots 0 0 0 none) v) s.views s.words (r.next ∷ r.serving ∷ length r.log ∷ []) s.homes (r.home ∷ []) r.words r.homes
+      (v.0, keeps, tt, unchanged s r id v.0 at, (refl, (r.seats id v.0 at).known))
 
   pub joins : (id : ℕ) (v : V) (other : ℕ) (w : V) → Rests v → Rests w → Joins K id v other w (merged_view v w) spent_view
   joins id v other w rests theirs s r at apart there' =
@@ -514,6 +531,7 @@ module _ {M O T : Type 0} (opening : M → O) (list : M → List (Entry T)) (o :
             (λ f. let a = it.retired y f in (a.0, its y a.1))
             (has-append y (v.retired ++ w.caller ∷ []) w.retired h);
         apart = λ l. let a = me.caller l in not_retired v w v.caller (me.apart l) (λ is. ne (sym a.1 ∙ (ap r.owner is ∙ (it.caller theirs.0).1))) (λ ret. ne (sym a.1 ∙ (it.retired v.caller ret).1));
+        known = λ l. own_longer v w.seen r.log (me.known l) (own_to v base r.log (me.fixed l).1 r.begun (me.caller l).2) me.seen it.seen;
       })
       (λ i z off at' away'. let ok = r.seats i z at' in record {
         place = ok.place;
@@ -526,6 +544,7 @@ module _ {M O T : Type 0} (opening : M → O) (list : M → List (Entry T)) (o :
         spare = λ y h. let a = ok.spare y h in (a.0, moved_else other id r.owner y i away' a.1, a.2, a.3, a.4);
         retired = λ y h. let a = ok.retired y h in (a.0, moved_else other id r.owner y i away' a.1);
         apart = ok.apart;
+        known = ok.known;
       })
       j u e away in
       record {
@@ -548,7 +567,7 @@ module _ {M O T : Type 0} (opening : M → O) (list : M → List (Entry T)) (o :
         begun = r.begun;
         homed = homed_stays r.home r.log (set s.views id both) other w g there' theirs.2 (homed_stays r.home r.log s.views id v both at rests.2 r.homed);
         seats = seats_set (SeatOk r.home r.serving r.out r.log o base callers r.holder owner') (set s.views id both) other g
-            (record { place = λ no. absurd (cc no); live = λ no. absurd (cc no); turn = λ no. absurd (cc no); seen = (r.log, refl); told = (r.log, refl); fixed = λ no. absurd (cc no); caller = λ no. absurd (cc no); spare = λ y no. absurd (cc no); retired = λ y no. absurd (cc no); apart = λ no. absurd (cc no) })
+            (record { place = λ no. absurd (cc no); live = λ no. absurd (cc no); turn = λ no. absurd (cc no); seen = (r.log, refl); told = (r.log, refl); fixed = λ no. absurd (cc no); caller = λ no. absurd (cc no); spare = λ y no. absurd (cc no); retired = λ y no. absurd (cc no); apart = λ no. absurd (cc no); known = λ no. absurd (cc no) })
             (λ j u off e. first j u off e);
       }
 
@@ -564,7 +583,7 @@ module _ {M O T : Type 0} (opening : M → O) (list : M → List (Entry T)) (o :
 
   -- what the last seat knows of the machine that comes back
   pub closes : (id : ℕ) (v : V) (ws : List ℕ) (xs : List M) → Rests v → ((x : ℕ) → x < v.callers → (eqb x v.caller || (has x v.spare || has x v.retired)) ≡ true) → Final (Seen K id v) ws xs → (y : M) → get_elem? xs 0 ≡ some y
-      → (v.opening ≡ Some (opening y)) × Begins v.seen (list y) × (v.own ≡ entries_of v.caller (drop v.base (list y)))
+      → (v.opening ≡ Some (opening y)) × Begins v.seen (list y) × IsOwn v (list y)
   closes id v ws xs rests all last y there =
       let s : St = last.0 in let r : K s = last.1.0 in let at : get_elem? s.views id ≡ some v = last.1.1 in
       let me = r.seats id v at in let fixed = me.fixed rests.0 in
@@ -573,20 +592,25 @@ module _ {M O T : Type 0} (opening : M → O) (list : M → List (Entry T)) (o :
       (or_cases (eqb x v.caller) (has x v.spare || has x v.retired) (all x (subst (λ (n : ℕ). x < n) (sym fixed.2) lt))) in
       let here : (home : maybe.Option M) → home ≡ r.home → Homed opening list o r.log s.views home → (opening y ≡ o) × (list y ≡ r.log) = elim_home s r id v at rests owned y xs there last.4 in
       let h = here r.home refl r.homed in
-      ((fixed.0 ∙ ap (λ (p : O). Some p) (sym h.0)), subst (λ (es : List (Entry T)). Begins v.seen es) (sym h.1) me.seen, (me.caller rests.0).2 ∙ (λ k. entries_of v.caller (drop (sym fixed.1 k) (sym h.1 k))))
+      ((fixed.0 ∙ ap (λ (p : O). Some p) (sym h.0)), subst (λ (es : List (ℕ × T)). Begins v.seen es) (sym h.1) me.seen, subst (λ (es : List (ℕ × T)). IsOwn v es) (sym h.1) (own_to v base r.log fixed.1 r.begun (me.caller rests.0).2))
 
-module _ {M O T : Type 0} (opening : M → O) (list : M → List (Entry T)) where
-  begins_both : (xs ys : List (Entry T)) (b : Bool) → ltb (length xs) (length ys) ≡ b → (length (cond b xs ys) ≤ length (cond b ys xs) → Begins (cond b xs ys) (cond b ys xs)) → Begins xs (cond b ys xs) × Begins ys (cond b ys xs)
-  begins_both xs ys true is f = let lt = ltb-true (length xs) (length ys) is in (f (omega arith), ([], sym (append-nil ys)))
-  begins_both xs ys false is f = let le = ltb-false (length xs) (length ys) is in (([], sym (append-nil xs)), f le)
+begins_both : {E : Type 0} → (xs ys : List E) (b : Bool) → ltb (length xs) (length ys) ≡ b → (length (cond b xs ys) ≤ length (cond b ys xs) → Begins (cond b xs ys) (cond b ys xs)) → Begins xs (cond b ys xs) × Begins ys (cond b ys xs)
+begins_both {E} xs ys true is f = let lt = ltb-true (length xs) (length ys) is in (f (omega arith), ([], sym (append-nil ys)))
+begins_both {E} xs ys false is f = let le = ltb-false (length xs) (length ys) is in (([], sym (append-nil xs)), f le)
 
+-- what a join tells of the seat that goes on
+module _ {O T : Type 0} where
   pub joins_both : (v w a b : View O T) → a ≡ merged_view v w → b ≡ compared_view a → (length a.told ≤ length a.seen → Begins a.told a.seen) → Begins v.seen b.seen × Begins w.seen b.seen
   joins_both v w a b is then learnt =
       let learnt' : length (shorter v.seen w.seen) ≤ length (longer v.seen w.seen) → Begins (shorter v.seen w.seen) (longer v.seen w.seen) =
       subst (λ (u : View O T). length u.told ≤ length u.seen → Begins u.told u.seen) is learnt in
-      subst (λ (es : List (Entry T)). Begins v.seen es × Begins w.seen es) (sym (ap (λ (u : View O T). u.seen) (then ∙ ap (λ (u : View O T). compared_view u) is)))
+      subst (λ (es : List (ℕ × T)). Begins v.seen es × Begins w.seen es) (sym (ap (λ (u : View O T). u.seen) (then ∙ ap (λ (u : View O T). compared_view u) is)))
       (begins_both v.seen w.seen (ltb (length v.seen) (length w.seen)) refl learnt')
 
+  pub joins_own : (v w a b : View O T) → a ≡ merged_view v w → b ≡ compared_view a → v.live ≡ true → (a.live ≡ true → IsOwn a a.seen) → IsOwn b b.seen
+  joins_own v w a b is then live learnt = subst (λ (u : View O T). IsOwn u u.seen) (sym then) (learnt (ap (λ (u : View O T). u.live) is ∙ live))
+
+module _ {M O T : Type 0} (opening : M → O) (list : M → List (ℕ × T)) where
   pub opens : (m : M) (callers c : ℕ) → 1 ≤ callers → callers < 2 ^ 32 → c ≡ length (list m) → Kept opening list (opening m) (length (list m)) callers (Table.opening (0 ∷ 0 ∷ c ∷ []) (m ∷ []) (first_view (opening m) (list m) callers))
   opens m callers c some_caller few count =
       let v : View O T = first_view (opening m) (list m) callers in
@@ -616,76 +640,83 @@ module _ {M O T : Type 0} (opening : M → O) (list : M → List (Entry T)) wher
               spare = λ x h. let t = has_below x 1 (callers - 1) h in let p = t.0 in let q = t.1 in (omega arith, refl, (λ z. omega arith), ap (entries_of x) (drop_all (list m)), refl);
               retired = λ x no. absurd (cc no);
               apart = λ _. refl;
+              known = λ _. (omega arith, sym (ap (entries_of 0) (drop_all (list m))));
             }))
             (at_end [] j v w e);
       }
 
--- what a whole call tells
-module _ {M O T Y : Type 0} (opening : M → O) (list : M → List (Entry T)) (allows : O → List (Entry T) → ℕ → T → Y → Type 0) (records : O → Y → Bool) where
-  own_added : (xs own zs : List (Entry T)) (b : Bool) (e : Entry T) → zs ≡ added xs b e → own ++ drop (length xs) zs ≡ added own b e
-  own_added xs own zs true e is = ap (λ (l : List (Entry T)). own ++ drop (length xs) l) is ∙ ap (λ (l : List (Entry T)). own ++ l) (drop-append_seam xs (e ∷ []))
-  own_added xs own zs false e is = ap (λ (l : List (Entry T)). own ++ drop (length xs) l) is ∙ (ap (λ (l : List (Entry T)). own ++ l) (drop_all xs) ∙ append-nil own)
+-- a list with one entry more, or none
+module _ {T : Type 0} where
+  own_added : (xs own zs : List (ℕ × T)) (b : Bool) (e : ℕ × T) → zs ≡ added xs b e → own ++ drop (length xs) zs ≡ added own b e
+  own_added xs own zs true e is = ap (λ (l : List (ℕ × T)). own ++ drop (length xs) l) is ∙ ap (λ (l : List (ℕ × T)). own ++ l) (drop-append_seam xs (e ∷ []))
+  own_added xs own zs false e is = ap (λ (l : List (ℕ × T)). own ++ drop (length xs) l) is ∙ (ap (λ (l : List (ℕ × T)). own ++ l) (drop_all xs) ∙ append-nil own)
 
-  all_added : (xs own zs : List (Entry T)) (b : Bool) (by base : ℕ) (x : T) → base ≤ length xs → own ≡ entries_of by (drop base xs) → zs ≡ added xs b (entry by x) → added own b (entry by x) ≡ entries_of by (drop base zs)
+  all_added : (xs own zs : List (ℕ × T)) (b : Bool) (by base : ℕ) (x : T) → base ≤ length xs → own ≡ entries_of by (drop base xs) → zs ≡ added xs b (entry by x) → added own b (entry by x) ≡ entries_of by (drop base zs)
   all_added xs own zs true by base x le all is =
-      let e : Entry T = entry by x in
+      let e : ℕ × T = entry by x in
       let one : entries_of by (e ∷ []) ≡ e ∷ [] = ap (λ (b : Bool). cond b (e ∷ []) []) (eq-eqb by by refl) in
-      (λ i. all i ++ sym one i) ∙ (sym (filter-append (λ f. eqb f.caller by) (drop base xs) (e ∷ [])) ∙ (ap (entries_of by) (sym (drop-append-le base xs (e ∷ []) le)) ∙ ap (λ (l : List (Entry T)). entries_of by (drop base l)) (sym is)))
-  all_added xs own zs false by base x le all is = all ∙ ap (λ (l : List (Entry T)). entries_of by (drop base l)) (sym is)
+      (λ i. all i ++ sym one i) ∙ (sym (filter-append (λ (f : ℕ × T). eqb f.0 by) (drop base xs) (e ∷ [])) ∙ (ap (entries_of by) (sym (drop-append-le base xs (e ∷ []) le)) ∙ ap (λ (l : List (ℕ × T)). entries_of by (drop base l)) (sym is)))
+  all_added xs own zs false by base x le all is = all ∙ ap (λ (l : List (ℕ × T)). entries_of by (drop base l)) (sym is)
 
+  added_le : (base : ℕ) (xs zs : List (ℕ × T)) (b : Bool) (e : ℕ × T) → base ≤ length xs → zs ≡ added xs b e → base ≤ length zs
+  added_le base xs zs true e le is = let l = ap length is ∙ length-append xs (e ∷ []) in omega arith
+  added_le base xs zs false e le is = let l = ap length is in omega arith
+
+  added_tail : (xs : List (ℕ × T)) (b : Bool) (e : ℕ × T) → added xs b e ≡ xs ++ added [] b e
+  added_tail xs true e = refl
+  added_tail xs false e = sym (append-nil xs)
+
+  calls_tail : (b : Bool) (by : ℕ) (x : T) → entries_of by (added [] b (entry by x)) ≡ added [] b (entry by x)
+  calls_tail true by x = let e : ℕ × T = entry by x in ap (λ (t : Bool). cond t (e ∷ []) []) (eq-eqb by by refl)
+  calls_tail false by x = refl
+
+  calls_other : (b : Bool) (n by : ℕ) (x : T) → n ≢ by → entries_of n (added [] b (entry by x)) ≡ []
+  calls_other true n by x ne = let e : ℕ × T = entry by x in ap (λ (t : Bool). cond t (e ∷ []) []) (ne_eqb by n (λ is. ne (sym is)))
+  calls_other false n by x ne = refl
+
+-- what a whole call tells
+module _ {M O T : Type 0} (opening : M → O) (list : M → List (ℕ × T)) where
   abbrev Sit : Type 0
   Sit = Me M (View O T)
 
-  pub tells : (v : View O T) (d t s n p : Sit) (ticket : ℕ) (y y' z : M) (by : ℕ) (x : T) (reply : Y) (front : ℕ) → Rests v → v.caller ≡ by → d ≡ (with_ticket ticket v, []) → Takes opening list d y t → t.1 ≡ (0, y') ∷ [] → s.0 ≡ t.0
-      → allows (opening y') (list y') by x reply → list z ≡ added (list y') (records (opening y') reply) (entry by x) → front ≡ length (list z) → n.0 ≡ with_list (list z) s.0 → p.0 ≡ without_ticket n.0
+  pub tells : {Y : Type 0} → (allows : O → List (ℕ × T) → ℕ → T → Y → Type 0) (records : O → T → Y → Bool) → (v : View O T) (d t s n p : Sit) (ticket : ℕ) (y y' z : M) (by : ℕ) (x : T) (reply : Y) (front : ℕ) → Rests v → v.caller ≡ by → d ≡ (with_ticket ticket v, []) → Takes opening list d y t → t.1 ≡ (0, y') ∷ [] → s.0 ≡ t.0
+      → allows (opening y') (list y') by x reply → list z ≡ added (list y') (records (opening y') x reply) (entry by x) → front ≡ length (list z) → n.0 ≡ with_list (list z) s.0 → p.0 ≡ without_ticket n.0
       → Stepped allows records (opening y) v p.0 x reply front
-  tells v d t s n p ticket y y' z by x reply front rests named drawn took held kept answer grew long counted_is passed_is =
+  tells allows records v d t s n p ticket y y' z by x reply front rests named drawn took held kept answer grew long counted_is passed_is =
       let T' : Takes opening list (with_ticket ticket v, []) y t = subst (λ (m : Sit). Takes opening list m y t) drawn took in
       let same : y' ≡ y = ap (λ (l : List (ℕ × M)). (get_or l 0 (0, y)).1) (sym held ∙ ap (λ (m : Sit). m.1) T'.0) in
       let w : View O T = without_ticket (with_list (list z) (with_turn (list y) (with_ticket ticket v))) in
       let is : p.0 ≡ w = passed_is ∙ (ap (λ (u : View O T). without_ticket u) counted_is ∙ ap (λ (u : View O T). without_ticket (with_list (list z) u)) (kept ∙ ap (λ (m : Sit). m.0) T'.0)) in
-      let b : Bool = records (opening y) reply in
+      let b : Bool = records (opening y) x reply in
       let answer' : allows (opening y) (list y) v.caller x reply = subst (λ (q : M × ℕ). allows (opening q.0) (list q.0) q.1 x reply) (λ i. (same i, sym named i)) answer in
-      let grew' : list z ≡ added (list y) b (entry v.caller x) = grew ∙ (λ i. added (list (same i)) (records (opening (same i)) reply) (entry (sym named i) x)) in
+      let grew' : list z ≡ added (list y) b (entry v.caller x) = grew ∙ (λ i. added (list (same i)) (records (opening (same i)) x reply) (entry (sym named i) x)) in
       let own : w.own ≡ added v.own b (entry v.caller x) = own_added (list y) v.own (list z) b (entry v.caller x) grew' in
       subst (λ (u : View O T). Stepped allows records (opening y) v u x reply front) (sym is) (record {
         before = list y;
-        begins = T'.1;
+        others = T'.1;
         own_before = T'.3;
-        since_open = T'.4;
         opening_is = T'.2;
         allowed = answer';
         seen_is = grew';
         front_is = long;
         own_is = own;
-        each_once = own ∙ all_added (list y) v.own (list z) b v.caller v.base x T'.4 T'.3 grew';
+        each_once = (added_le v.base (list y) (list z) b (entry v.caller x) T'.3.0 grew', own ∙ all_added (list y) v.own (list z) b v.caller v.base x T'.3.0 T'.3.1 grew');
         else_same = λ i. record w { has_ticket = sym rests.1 i; turn = sym rests.2 i; ticket = sym rests.3 i };
       })
 
-  added_tail : (xs : List (Entry T)) (b : Bool) (e : Entry T) → added xs b e ≡ xs ++ added [] b e
-  added_tail xs true e = refl
-  added_tail xs false e = sym (append-nil xs)
-
-  calls_tail : (b : Bool) (by : ℕ) (x : T) → entries_of by (added [] b (entry by x)) ≡ added [] b (entry by x)
-  calls_tail true by x = let e : Entry T = entry by x in ap (λ (t : Bool). cond t (e ∷ []) []) (eq-eqb by by refl)
-  calls_tail false by x = refl
-
-  calls_other : (b : Bool) (n by : ℕ) (x : T) → n ≢ by → entries_of n (added [] b (entry by x)) ≡ []
-  calls_other true n by x ne = let e : Entry T = entry by x in ap (λ (t : Bool). cond t (e ∷ []) []) (ne_eqb by n (λ is. ne (sym is)))
-  calls_other false n by x ne = refl
-
-  pub adds_up : (v : View O T) (d t s : Sit) (ticket : ℕ) (y y' z : M) (by : ℕ) (x : T) (b : Bool) (before after : ℕ) → v.caller ≡ by → d ≡ (with_ticket ticket v, []) → t ≡ (with_turn (list y) d.0, (0, y) ∷ d.1) → t.1 ≡ (0, y') ∷ [] → s.0 ≡ t.0
+module _ {M O T : Type 0} (list : M → List (ℕ × T)) where
+  pub adds_up : (v : View O T) (d t s : Me M (View O T)) (ticket : ℕ) (y y' z : M) (by : ℕ) (x : T) (b : Bool) (before after : ℕ) → v.caller ≡ by → d ≡ (with_ticket ticket v, []) → t ≡ (with_turn (list y) d.0, (0, y) ∷ d.1) → t.1 ≡ (0, y') ∷ [] → s.0 ≡ t.0
       → list z ≡ added (list y') b (entry by x) → before ≡ length (list y') → after ≡ length (list z)
-      → (es : List (Entry T)) × (list z ≡ s.0.seen ++ es) × (after - before ≡ length es) × (entries_of s.0.caller es ≡ es) × ((n : ℕ) → n ≢ s.0.caller → entries_of n es ≡ [])
+      → (es : List (ℕ × T)) × (list z ≡ s.0.seen ++ es) × (after - before ≡ length es) × (entries_of s.0.caller es ≡ es) × ((n : ℕ) → n ≢ s.0.caller → entries_of n es ≡ [])
   adds_up v d t s ticket y y' z by x b before after named drawn took held kept grew short long =
-      let es : List (Entry T) = added [] b (entry by x) in
-      let t_is : t ≡ (with_turn (list y) (with_ticket ticket v), (0, y) ∷ []) = took ∙ ap (λ (m : Sit). let u : Sit = (with_turn (list y) m.0, (0, y) ∷ m.1) in u) drawn in
-      let same : y' ≡ y = ap (λ (l : List (ℕ × M)). (get_or l 0 (0, y)).1) (sym held ∙ ap (λ (m : Sit). m.1) t_is) in
-      let seen : s.0.seen ≡ list y' = ap (λ (u : View O T). u.seen) (kept ∙ ap (λ (m : Sit). m.0) t_is) ∙ ap list (sym same) in
-      let caller : s.0.caller ≡ by = ap (λ (u : View O T). u.caller) (kept ∙ ap (λ (m : Sit). m.0) t_is) ∙ named in
+      let es : List (ℕ × T) = added [] b (entry by x) in
+      let t_is : t ≡ (with_turn (list y) (with_ticket ticket v), (0, y) ∷ []) = took ∙ ap (λ (m : Me M (View O T)). let u : Me M (View O T) = (with_turn (list y) m.0, (0, y) ∷ m.1) in u) drawn in
+      let same : y' ≡ y = ap (λ (l : List (ℕ × M)). (get_or l 0 (0, y)).1) (sym held ∙ ap (λ (m : Me M (View O T)). m.1) t_is) in
+      let seen : s.0.seen ≡ list y' = ap (λ (u : View O T). u.seen) (kept ∙ ap (λ (m : Me M (View O T)). m.0) t_is) ∙ ap list (sym same) in
+      let caller : s.0.caller ≡ by = ap (λ (u : View O T). u.caller) (kept ∙ ap (λ (m : Me M (View O T)). m.0) t_is) ∙ named in
       let grown : list z ≡ list y' ++ es = grew ∙ added_tail (list y') b (entry by x) in (
         es,
-        grown ∙ ap (λ (l : List (Entry T)). l ++ es) (sym seen),
+        grown ∙ ap (λ (l : List (ℕ × T)). l ++ es) (sym seen),
         (let l = ap length grown ∙ length-append (list y') es in omega arith),
         ap (λ (n : ℕ). entries_of n es) caller ∙ calls_tail b by x,
         (λ n ne. calls_other b n by x (λ is. ne (is ∙ sym caller))),

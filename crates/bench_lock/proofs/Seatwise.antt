@@ -4,13 +4,14 @@ use mathlib.Core.Option.{some, none, some-injective, some-ne-none}
 use mathlib.Core.Option as maybe
 use lib.ListN.{get_elem?}
 use Rattle.atomic_table.specs.Table.{State, Me, Allows, Splits, Joins, Final, Seen}
-use Rattle.bench_lock.specs.declared.entry.Entry.{Entry}
 use Rattle.bench_lock.specs.declared.view.View.{View}
 use Rattle.bench_lock.specs.Log.{entries_of, Begins, has}
 use Rattle.bench_lock.specs.Rule.{total, ticket_count, spare_count, SomeHasTurn, Rule}
+use Rattle.bench_lock.specs.Views.{IsOwn}
+use Rattle.bench_lock.proofs.Own.{own_from, own_to}
 
 module _ {M O T : Type 0} where
-  pub record SeatOk (home : maybe.Option M) (serving out : ℕ) (log : List (Entry T)) (opening : O) (base callers : ℕ) (holder owner : ℕ → ℕ) (j : ℕ) (w : View O T) : Type 0 where
+  pub record SeatOk (home : maybe.Option M) (serving out : ℕ) (log : List (ℕ × T)) (opening : O) (base callers : ℕ) (holder owner : ℕ → ℕ) (j : ℕ) (w : View O T) : Type 0 where
     pub place : w.has_ticket ≡ true → (k : ℕ) × (k < out) × (holder k ≡ j) × (w.ticket ≡ (serving + k) % 2 ^ 64)
     pub live : w.has_ticket ≡ true → w.live ≡ true
     pub turn : w.turn ≡ true → (w.has_ticket ≡ true) × (w.ticket ≡ serving) × (w.seen ≡ log) × (home ≡ none)
@@ -21,17 +22,18 @@ module _ {M O T : Type 0} where
     pub spare : (x : ℕ) → has x w.spare ≡ true → (x < callers) × (owner x ≡ j) × (x ≢ w.caller) × (entries_of x (drop base log) ≡ []) × (has x w.retired ≡ false)
     pub retired : (x : ℕ) → has x w.retired ≡ true → (x < callers) × (owner x ≡ j)
     pub apart : w.live ≡ true → has w.caller w.retired ≡ false
+    pub known : w.live ≡ true → IsOwn w w.seen
 
-module _ {M O T : Type 0} (opening : M → O) (list : M → List (Entry T)) where
+module _ {M O T : Type 0} (opening : M → O) (list : M → List (ℕ × T)) where
   -- the machine at home has the list, or else a seat has the turn
-  abbrev pub Homed : O → List (Entry T) → List (View O T) → maybe.Option M → Type 0
+  abbrev pub Homed : O → List (ℕ × T) → List (View O T) → maybe.Option M → Type 0
   Homed o log views (some m) = (opening m ≡ o) × (list m ≡ log)
   Homed o log views none = SomeHasTurn views
 
   pub record Kept (o : O) (base callers : ℕ) (s : State M (View O T)) : Type 0 where
     pub next : ℕ
     pub serving : ℕ
-    pub log : List (Entry T)
+    pub log : List (ℕ × T)
     pub out : ℕ
     pub home : maybe.Option M
     pub holder : ℕ → ℕ
@@ -44,15 +46,15 @@ module _ {M O T : Type 0} (opening : M → O) (list : M → List (Entry T)) wher
     pub homed : Homed o log s.views home
     pub seats : (j : ℕ) (w : View O T) → get_elem? s.views j ≡ some w → SeatOk home serving out log o base callers holder owner j w
 
-  homed_of : (o : O) (log : List (Entry T)) (views : List (View O T)) (home : maybe.Option M) → ((m : M) → home ≡ some m → (opening m ≡ o) × (list m ≡ log)) → (home ≡ none → SomeHasTurn views) → Homed o log views home
+  homed_of : (o : O) (log : List (ℕ × T)) (views : List (View O T)) (home : maybe.Option M) → ((m : M) → home ≡ some m → (opening m ≡ o) × (list m ≡ log)) → (home ≡ none → SomeHasTurn views) → Homed o log views home
   homed_of o log views (some m) there away = there m refl
   homed_of o log views none there away = away refl
 
-  machine_of : (o : O) (log : List (Entry T)) (views : List (View O T)) (home : maybe.Option M) → Homed o log views home → (m : M) → home ≡ some m → (opening m ≡ o) × (list m ≡ log)
+  machine_of : (o : O) (log : List (ℕ × T)) (views : List (View O T)) (home : maybe.Option M) → Homed o log views home → (m : M) → home ≡ some m → (opening m ≡ o) × (list m ≡ log)
   machine_of o log views (some y) h m is = let same : y ≡ m = some-injective y m is in (ap opening (sym same) ∙ h.0, ap list (sym same) ∙ h.1)
   machine_of o log views none h m is = absurd (some-ne-none m (sym is))
 
-  turn_of : (o : O) (log : List (Entry T)) (views : List (View O T)) (home : maybe.Option M) → Homed o log views home → home ≡ none → SomeHasTurn views
+  turn_of : (o : O) (log : List (ℕ × T)) (views : List (View O T)) (home : maybe.Option M) → Homed o log views home → home ≡ none → SomeHasTurn views
   turn_of o log views (some y) h is = absurd (some-ne-none y is)
   turn_of o log views none h is = h
 
@@ -78,10 +80,11 @@ module _ {M O T : Type 0} (opening : M → O) (list : M → List (Entry T)) wher
       seen = (r.one_list.seen j w at).0;
       told = (r.one_list.seen j w at).1;
       fixed = r.one_list.fixed j w at;
-      caller = λ l. let a = r.numbers.caller j w at l in (a.0, a.1, r.numbers.own j w at l);
+      caller = λ l. let a = r.numbers.caller j w at l in (a.0, a.1, own_from w base r.log (r.one_list.fixed j w at l).1 (r.numbers.own j w at l).0);
       spare = r.numbers.spare j w at;
       retired = r.numbers.retired j w at;
       apart = λ l. (r.numbers.caller j w at l).2;
+      known = λ l. (r.numbers.own j w at l).1;
     };
   }
 
@@ -109,7 +112,7 @@ module _ {M O T : Type 0} (opening : M → O) (list : M → List (Entry T)) wher
     numbers = record {
       live = λ j w at. (r.seats j w at).live;
       caller = λ j w at l. let ok = r.seats j w at in let a = ok.caller l in (a.0, a.1, ok.apart l);
-      own = λ j w at l. ((r.seats j w at).caller l).2;
+      own = λ j w at l. let ok = r.seats j w at in (own_to w base r.log (ok.fixed l).1 r.begun (ok.caller l).2, ok.known l);
       spare = λ j w at. (r.seats j w at).spare;
       retired = λ j w at. (r.seats j w at).retired;
     };

@@ -1,10 +1,10 @@
 -- Lists of entries, and lists of callers. Source: own.
 use Rattle.std.specs.Prelude.{◌≡◌, ℕ, Bool, true, false, List, [], ◌∷◌, ◌++◌, ◌==◌, ◌||◌, not}
 use Rattle.std.specs.List.{filter}
-use Rattle.bench_lock.specs.declared.entry.Entry.{Entry}
 
-abbrev pub entry : {T : Type 0} → ℕ → T → Entry T
-entry by x = record { caller = by; step = x }
+-- the entry of a step: its caller's number and the step
+abbrev pub entry : {T : Type 0} → ℕ → T → ℕ × T
+entry by x = (by, x)
 
 -- the list, and the entry at its end where it is recorded
 abbrev pub added : {E : Type 0} → List E → Bool → E → List E
@@ -12,8 +12,8 @@ added es true e = es ++ e ∷ []
 added es false e = es
 
 -- the entries of one caller, in order
-abbrev pub entries_of : {T : Type 0} → ℕ → List (Entry T) → List (Entry T)
-entries_of by es = filter (λ e. e.caller == by) es
+abbrev pub entries_of : {T : Type 0} → ℕ → List (ℕ × T) → List (ℕ × T)
+entries_of by es = filter (λ e. e.0 == by) es
 
 -- the list es begins with what was seen
 abbrev pub Begins : {E : Type 0} → List E → List E → Type 0

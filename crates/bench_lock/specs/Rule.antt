@@ -4,9 +4,9 @@ use mathlib.Core.Option.{some, none}
 use mathlib.Core.Option as maybe
 use lib.ListN.{get_elem?}
 use Rattle.atomic_table.specs.Table.{State}
-use Rattle.bench_lock.specs.declared.entry.Entry.{Entry}
 use Rattle.bench_lock.specs.declared.view.View.{View}
 use Rattle.bench_lock.specs.Log.{entries_of, Begins, has}
+use Rattle.bench_lock.specs.Views.{IsOwn}
 
 -- the numbers f of the elements, added up
 abbrev pub total : {A : Type 0} → (A → ℕ) → List A → ℕ
@@ -46,7 +46,7 @@ module _ {O T : Type 0} where
 
   -- 4. There is one list, `log`, whose length is the count. It is the machine's where the slot is at home, else the seen list of the view with the turn.
   -- Every view's seen list is a prefix of it, and the machine at home has the opening that the views hold.
-  pub record OneList {M : Type 0} (opening : M → O) (list : M → List (Entry T)) (o : O) (base callers : ℕ) (log : List (Entry T)) (home : maybe.Option M) (views : List (View O T)) : Type 0 where
+  pub record OneList {M : Type 0} (opening : M → O) (list : M → List (ℕ × T)) (o : O) (base callers : ℕ) (log : List (ℕ × T)) (home : maybe.Option M) (views : List (View O T)) : Type 0 where
     pub at_home : (m : M) → home ≡ some m → (opening m ≡ o) × (list m ≡ log)
     pub in_turn : Each (λ j w. w.turn ≡ true → w.seen ≡ log) views
     pub seen : Each (λ j w. Begins w.seen log × Begins w.told log) views
@@ -54,20 +54,20 @@ module _ {O T : Type 0} where
     pub since_open : base ≤ length log
 
   -- 5. The callers, spare callers and retired callers of all views are distinct and below the number of callers: the number x belongs to the seat `owner x` alone, and is one of the three there.
-  -- A spare caller has no entry in the list from the length at opening on, and a view's own entries are those of its caller from there on.
+  -- A spare caller has no entry in the list from the length at opening on. A view's own entries are those of its caller from there on, and it has seen them all.
   -- The fixed view of a joined seat is excepted: it is not live, and has no numbers and no ticket.
-  pub record OwnCallers (base callers : ℕ) (log : List (Entry T)) (owner : ℕ → ℕ) (views : List (View O T)) : Type 0 where
+  pub record OwnCallers (base callers : ℕ) (log : List (ℕ × T)) (owner : ℕ → ℕ) (views : List (View O T)) : Type 0 where
     pub live : Each (λ j w. w.has_ticket ≡ true → w.live ≡ true) views
     pub caller : Each (λ j w. w.live ≡ true → (w.caller < callers) × (owner w.caller ≡ j) × (has w.caller w.retired ≡ false)) views
-    pub own : Each (λ j w. w.live ≡ true → w.own ≡ entries_of w.caller (drop base log)) views
+    pub own : Each (λ j w. w.live ≡ true → IsOwn w log × IsOwn w w.seen) views
     pub spare : Each (λ j w. (x : ℕ) → has x w.spare ≡ true → (x < callers) × (owner x ≡ j) × (x ≢ w.caller) × (entries_of x (drop base log) ≡ []) × (has x w.retired ≡ false)) views
     pub retired : Each (λ j w. (x : ℕ) → has x w.retired ≡ true → (x < callers) × (owner x ≡ j)) views
 
 -- The table has the words TICKET, SERVING and COUNT and one slot. The machine was opened with o and a list of `base` entries, for so many callers
-pub record Rule {M O T : Type 0} (opening : M → O) (list : M → List (Entry T)) (o : O) (base callers : ℕ) (s : State M (View O T)) : Type 0 where
+pub record Rule {M O T : Type 0} (opening : M → O) (list : M → List (ℕ × T)) (o : O) (base callers : ℕ) (s : State M (View O T)) : Type 0 where
   pub next : ℕ
   pub serving : ℕ
-  pub log : List (Entry T)
+  pub log : List (ℕ × T)
   pub home : maybe.Option M
   pub out : ℕ
   pub holder : ℕ → ℕ

@@ -3,7 +3,6 @@ use Rattle.std.specs.Prelude.{◌≡◌, ℕ, ◌≤◌, ◌<◌, true, false, L
 use Rattle.atomic_table.specs.Table.{Me, Step, rest}
 use Rattle.atomic_table.specs.Seated.{TableId}
 use Rattle.atomic_table.specs.declared.shared.Seat.{Seat}
-use Rattle.bench_lock.specs.declared.entry.Entry.{Entry}
 use Rattle.bench_lock.specs.declared.view.View.{View}
 use Rattle.bench_lock.specs.Log.{entries_of, Begins, has, without}
 
@@ -30,10 +29,20 @@ abbrev pub numbers_from : ℕ → ℕ → List ℕ
 numbers_from k zero = []
 numbers_from k (suc n) = k ∷ numbers_from (suc k) n
 
+-- A seat's entries in a list
+module _ {O T : Type 0} where
+  -- in the list es, from the length at opening on, the entries of the seat's caller are just the seat's own
+  abbrev pub IsOwn : View O T → List (ℕ × T) → Type 0
+  IsOwn v es = (v.base ≤ length es) × (v.own ≡ entries_of v.caller (drop v.base es))
+
+  -- the list es is what the seat has seen, with entries of others behind it
+  abbrev pub OthersSince : View O T → List (ℕ × T) → Type 0
+  OthersSince v es = (others : List (ℕ × T)) × (es ≡ v.seen ++ others) × (entries_of v.caller others ≡ [])
+
 -- The calls
 module _ {O T : Type 0} where
   -- open: the caller is 0 and all other callers are spare. The machine has the opening o and the list es
-  abbrev pub first_view : O → List (Entry T) → ℕ → View O T
+  abbrev pub first_view : O → List (ℕ × T) → ℕ → View O T
   first_view o es callers = record { live = true; caller = 0; spare = numbers_from 1 (callers - 1); retired = []; has_ticket = false; ticket = 0; turn = false; seen = es; told = []; own = []; opening = Some o; base = length es; callers = callers }
 
   -- split: the old seat loses the spare caller x
@@ -77,11 +86,11 @@ module _ {O T : Type 0} where
   abbrev pub with_ticket : ℕ → View O T → View O T
   with_ticket t w = record w { has_ticket = true; ticket = t }
 
-  abbrev pub with_turn : List (Entry T) → View O T → View O T
+  abbrev pub with_turn : List (ℕ × T) → View O T → View O T
   with_turn es w = record w { turn = true; seen = es }
 
   -- the list es is seen, and what it has beyond the list seen before is the seat's own
-  abbrev pub with_list : List (Entry T) → View O T → View O T
+  abbrev pub with_list : List (ℕ × T) → View O T → View O T
   with_list es w = record w { seen = es; own = w.own ++ drop (length w.seen) es }
 
   abbrev pub without_ticket : View O T → View O T
@@ -109,12 +118,16 @@ module _ {M O T : Type 0} where
 
   -- compare: of the two lists of a joined seat the shorter begins the longer
   abbrev pub Compares : Step M → Seated M O T → ℕ → Seated M O T → Type 0
-  Compares st v n w = (w ≡ (compared_view v.0, v.1)) × (length v.0.told ≤ length v.0.seen → Begins v.0.told v.0.seen)
+  Compares st v n w = (w ≡ (compared_view v.0, v.1)) × (length v.0.told ≤ length v.0.seen → Begins v.0.told v.0.seen) × (v.0.live ≡ true → IsOwn v.0 v.0.seen)
 
-module _ {M O T : Type 0} (opening : M → O) (list : M → List (Entry T)) where
-  -- the seat has the turn and the machine y, whose list it sees: it begins with what the seat had seen, and from the length at opening on has of its caller just its own entries
+  -- know: all entries of a seat's caller in what it has seen are its own
+  abbrev pub Knows : Step M → Seated M O T → ℕ → Seated M O T → Type 0
+  Knows st v n w = (w ≡ v) × (v.0.live ≡ true → IsOwn v.0 v.0.seen)
+
+module _ {M O T : Type 0} (opening : M → O) (list : M → List (ℕ × T)) where
+  -- the seat has the turn and the machine y, whose list it sees: it is what the seat had seen with entries of others behind it, and from the length at opening on has of its caller just its own entries
   abbrev pub Takes : Seated M O T → M → Seated M O T → Type 0
-  Takes v y w = (w ≡ (with_turn (list y) v.0, (0, y) ∷ v.1)) × Begins v.0.seen (list y) × (v.0.opening ≡ Some (opening y)) × (v.0.own ≡ entries_of v.0.caller (drop v.0.base (list y))) × (v.0.base ≤ length (list y))
+  Takes v y w = (w ≡ (with_turn (list y) v.0, (0, y) ∷ v.1)) × OthersSince v.0 (list y) × (v.0.opening ≡ Some (opening y)) × IsOwn v.0 (list y)
 
   -- look: the machine is taken exactly where the number found is the seat's ticket
   abbrev pub Looks : Step M → Seated M O T → ℕ → Seated M O T → Type 0

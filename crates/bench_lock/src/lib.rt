@@ -9,7 +9,7 @@
 #![tactic(auto)]
 
 mod applied;
-mod entry;
+mod laws;
 mod machine;
 mod rule;
 mod seats;
@@ -19,7 +19,7 @@ mod tests;
 mod view;
 
 pub use applied::Applied;
-pub use entry::Entry;
+pub use laws::steps_after_others;
 pub use machine::Machine;
 pub use seats::{Seat, Shared};
 pub use view::View;

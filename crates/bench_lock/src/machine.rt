@@ -1,6 +1,5 @@
 //! What the lock holds.
 ghost use Rattle.std.specs.Prelude.{◌≡◌, ℕ, Bool, List, length};
-ghost use Rattle.bench_lock.specs.declared.entry.Entry.{Entry};
 ghost use Rattle.bench_lock.specs.Log.{entry, added};
 
 /// A value that changes in steps, each made for a caller, and keeps the list of the steps that it records.
@@ -16,21 +15,21 @@ pub trait Machine: Drop {
     /// What the machine was opened with. No step changes it.
     ghost opening: { Self → Self.Opening };
 
-    /// The recorded steps, in order.
-    ghost list: { Self → List (Entry Self.Step) };
+    /// The recorded steps, in order, each as its entry: the caller's number and the step.
+    ghost list: { Self → List (ℕ × Self.Step) };
 
     /// Which replies an opening and a list allow to a caller's step.
-    ghost allows: { Self.Opening → List (Entry Self.Step) → ℕ → Self.Step → Self.Reply → Type 0 };
+    ghost allows: { Self.Opening → List (ℕ × Self.Step) → ℕ → Self.Step → Self.Reply → Type 0 };
 
-    /// Which replies say that the step is recorded.
-    ghost records: { Self.Opening → Self.Reply → Bool };
+    /// Which steps are recorded: those that have such a reply under such an opening.
+    ghost records: { Self.Opening → Self.Step → Self.Reply → Bool };
 
     /// Makes the step for the caller. The reply is allowed by the list before it, and exactly a recorded step
     /// lengthens the list, by its own entry.
     fn step(&mut self, caller: u32, step: Self::Step) -> Self::Reply
         ensures opening { opening self.new ≡ opening self.old }
         ensures reply { allows (opening self.old) (list self.old) caller step result }
-        ensures list { list self.new ≡ added (list self.old) (records (opening self.old) result) (entry caller step) };
+        ensures list { list self.new ≡ added (list self.old) (records (opening self.old) step result) (entry caller step) };
 
     /// The length of the list.
     fn length(&self) -> u32

@@ -73,6 +73,17 @@ impl<M: Machine> Play<M, MachineView<M>> for PassOn<M> {
     ghost then = { Passes };
 }
 
+/// A new seat learns that it has no entry in what it has seen.
+pub(crate) struct Know<M> {
+    marker: PhantomData<M>,
+}
+
+impl<M: Machine> Play<M, MachineView<M>> for Know<M> {
+    ghost use Rattle.bench_lock.specs.Views.{Knows};
+
+    ghost then = { Knows };
+}
+
 /// The two lists of a joined seat are compared.
 pub(crate) struct Compare<M> {
     marker: PhantomData<M>,

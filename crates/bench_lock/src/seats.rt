@@ -1,8 +1,8 @@
 //! The lock and its seats.
-ghost use Rattle.std.specs.Prelude.{◌≡◌, ℕ, ◌≤◌, ◌<◌, true, [], IfOk, Some, drop, ◌||◌, ◌==◌};
+ghost use Rattle.std.specs.Prelude.{◌≡◌, ℕ, ◌≤◌, ◌<◌, true, [], IfOk, Some};
 ghost use Rattle.atomic_table.specs.Seated.{TableId};
-ghost use Rattle.bench_lock.specs.Log.{has, entries_of, Begins};
-ghost use Rattle.bench_lock.specs.Views.{Held, IsSized, Rests, HasAllCallers, first_view, left_view, right_view, joined_view};
+ghost use Rattle.bench_lock.specs.Log.{has, Begins};
+ghost use Rattle.bench_lock.specs.Views.{Held, IsSized, IsOwn, Rests, HasAllCallers, first_view, left_view, right_view, joined_view};
 ghost use Rattle.bench_lock.specs.Stepped.{Stepped};
 
 use crate::applied::Applied;
@@ -87,6 +87,7 @@ impl<M: Machine> Shared<M> {
         requires spare { has caller from.old.view.spare ≡ true }
         ensures left { (from.new.lock ≡ from.old.lock) × (from.new.view ≡ left_view caller from.old.view) }
         ensures right { (result.lock ≡ from.old.lock) × (result.view ≡ right_view caller from.old.view) }
+        ensures own { IsOwn result.view result.view.seen }
     {
         let seat = split_as::<M, Brand>(&self.table.shared, &mut from.seat, caller);
         Seat { caller, seat }
@@ -98,6 +99,7 @@ impl<M: Machine> Shared<M> {
         requires lock { (into.old.lock ≡ self.now) × (from.lock ≡ self.now) }
         ensures view { (into.new.lock ≡ into.old.lock) × (into.new.view ≡ joined_view into.old.view from.view) }
         ensures seen { Begins into.old.view.seen into.new.view.seen × Begins from.view.seen into.new.view.seen }
+        ensures own { IsOwn into.new.view into.new.view.seen }
     {
         let Seat { caller: _, seat } = from;
         join_at(&self.table.shared, &mut into.seat, seat);
@@ -110,7 +112,7 @@ impl<M: Machine> Shared<M> {
         requires all { HasAllCallers last.view }
         ensures opening { last.view.opening ≡ Some (M.opening result) }
         ensures list { Begins last.view.seen (M.list result) }
-        ensures own { last.view.own ≡ entries_of last.view.caller (drop last.view.base (M.list result)) }
+        ensures own { IsOwn last.view (M.list result) }
     {
         let Shared { table } = self;
         let Seat { caller: _, seat } = last;

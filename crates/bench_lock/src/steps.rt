@@ -1,13 +1,13 @@
 //! The atomic steps of a seat. It holds no slot but the machine's, and that one only while it has the turn.
 ghost use Rattle.std.specs.Prelude.{◌≡◌, ℕ, ◌≢◌, ◌^◌, ◌<◌, true, false, [], ◌∷◌, ◌++◌, length, Some, IfSome, IfNone};
 ghost use Rattle.bench_lock.specs.Log.{entry, added, entries_of, has, Begins};
-ghost use Rattle.bench_lock.specs.Views.{IsSized, IsSameSeat, Rests, Takes, with_ticket, with_list, without_ticket, left_view, right_view, joined_view};
+ghost use Rattle.bench_lock.specs.Views.{IsSized, IsSameSeat, IsOwn, Rests, Takes, with_ticket, with_list, without_ticket, left_view, right_view, joined_view};
 ghost use Rattle.bench_lock.specs.Stepped.{Stepped};
 
 use crate::applied::Applied;
 use crate::machine::Machine;
 use crate::rule::{
-    About, Compare, Count, Draw, HandOver, Look, MachineView, Merge, Named, PassOn, Turns,
+    About, Compare, Count, Draw, HandOver, Know, Look, MachineView, Merge, Named, PassOn, Turns,
 };
 use std::sync::Wait;
 
@@ -96,7 +96,7 @@ fn step<M: Machine>(
     requires { (seat.old.table_id ≡ table.now.table_id) × ((y : _) × (seat.old.me.1 ≡ (0, y) ∷ [])) }
     ensures same { IsSameSeat seat.old seat.new × (seat.new.me.0 ≡ seat.old.me.0) }
     ensures stepped { (y : _) × (z : _) × (seat.old.me.1 ≡ (0, y) ∷ []) × (seat.new.me.1 ≡ (0, z) ∷ []) × (M.opening z ≡ M.opening y)
-        × M.allows (M.opening y) (M.list y) caller step result.reply × (M.list z ≡ added (M.list y) (M.records (M.opening y) result.reply) (entry caller step))
+        × M.allows (M.opening y) (M.list y) caller step result.reply × (M.list z ≡ added (M.list y) (M.records (M.opening y) step result.reply) (entry caller step))
         × (result.before ≡ length (M.list y)) × (result.after ≡ length (M.list z)) }
 {
     let machine = seat.slot_mut(table, 0);
@@ -173,8 +173,11 @@ pub(crate) fn split_as<M: Machine, C: Named>(
     requires spare { has caller seat.old.me.0.spare ≡ true }
     ensures left { IsSameSeat seat.old seat.new × (seat.new.me ≡ (left_view caller seat.old.me.0, [])) }
     ensures right { (result.table_id ≡ seat.old.table_id) × (result.me ≡ (right_view caller seat.old.me.0, [])) }
+    ensures own { IsOwn result.me.0 result.me.0.seen }
 {
-    table.split_seat::<HandOver<C>>(seat)
+    let mut new = table.split_seat::<HandOver<C>>(seat);
+    table.load::<Know<M>>(&mut new, TICKET);
+    new
 }
 
 /// Joins the other seat into this one, and compares what the two had seen.
@@ -187,6 +190,7 @@ pub(crate) fn join_at<M: Machine>(
     requires rests { Rests seat.old.me.0 × Rests other.me.0 × (seat.old.me.1 ≡ []) × (other.me.1 ≡ []) }
     ensures seat { IsSameSeat seat.old seat.new × (seat.new.me ≡ (joined_view seat.old.me.0 other.me.0, [])) }
     ensures both { Begins seat.old.me.0.seen seat.new.me.0.seen × Begins other.me.0.seen seat.new.me.0.seen }
+    ensures own { IsOwn seat.new.me.0 seat.new.me.0.seen }
 {
     table.join_seat::<Merge>(seat, other);
     table.load::<Compare<M>>(seat, TICKET);

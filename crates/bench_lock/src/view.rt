@@ -1,5 +1,4 @@
 //! What a seat knows. It stands in proofs alone: no value of it is made.
-use crate::entry::Entry;
 use std::collections::LinkedList;
 
 /// The view of a seat. That of a joined seat isn't live: it has no caller, no other numbers and no ticket.
@@ -16,12 +15,12 @@ pub struct View<O, T> {
     pub ticket: u64,
     /// It holds the machine.
     pub turn: bool,
-    /// The machine's list as far as the seat has seen it.
-    pub seen: LinkedList<Entry<T>>,
+    /// The machine's list as far as the seat has seen it. An entry is a caller's number and the step.
+    pub seen: LinkedList<(u32, T)>,
     /// The shorter of the lists that two joined seats had seen, until the two are compared.
-    pub told: LinkedList<Entry<T>>,
+    pub told: LinkedList<(u32, T)>,
     /// The entries that the seat made, in order.
-    pub own: LinkedList<Entry<T>>,
+    pub own: LinkedList<(u32, T)>,
     /// The machine's opening.
     pub opening: Option<O>,
     /// The length of the machine's list when the lock was opened.

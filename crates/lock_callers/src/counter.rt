@@ -1,15 +1,19 @@
 //! A sum with a limit, which contracts see as its bounds and the list of the steps that made it.
-ghost use Rattle.std.specs.Prelude.{◌≡◌, ◌+◌, ◌^◌, ◌≤◌, ◌<◌, [], length, IfOk, MatchOption, is_some, vec_capacity};
-ghost use Rattle.lock_callers.specs.Counted.{Counted, IsFull, sum_of};
+ghost use Rattle.std.specs.Prelude.{◌≡◌, ◌^◌, ◌≤◌, ◌<◌, [], length, IfOk, vec_capacity};
+ghost use Rattle.lock_callers.specs.Counted.{Counted, Allowed, is_recorded, sum_of};
 
-use bench_lock::{Entry, Machine};
+use bench_lock::Machine;
 use std::alloc::{AllocError, Global};
 use std::marker::Model;
 
-/// The most that a counter's sum may be, and the most steps that it takes.
+/// Which steps a counter counts.
 #[derive(Clone, Copy)]
 pub struct Bounds {
+    /// A smaller step is left out.
+    pub least: u32,
+    /// The most that the sum may be.
     pub limit: u64,
+    /// The most steps that are recorded.
     pub most: u32,
 }
 
@@ -17,7 +21,7 @@ pub struct Bounds {
 pub struct Counter {
     bounds: Bounds,
     sum: u64,
-    log: Vec<Entry<u32>>,
+    log: Vec<(u32, u32)>,
 }
 
 impl Model for Counter {
@@ -47,7 +51,7 @@ impl Counter {
         self.sum
     }
 
-    pub fn entries(&self) -> &[Entry<u32>]
+    pub fn entries(&self) -> &[(u32, u32)]
         ensures { result.now ≡ self.now.list }
     {
         &self.log
@@ -65,17 +69,21 @@ impl Machine for Counter {
 
     ghost list = { λ s. s.list };
 
-    ghost allows = { λ bounds es by x reply. MatchOption reply (IsFull bounds es x) (λ n. (n ≡ sum_of es + x) × (n ≤ bounds.limit) × (length es < bounds.most)) };
+    ghost allows = { Allowed };
 
-    ghost records = { λ bounds reply. is_some reply };
+    ghost records = { is_recorded };
 
-    /// Adds the step to the sum. None exactly where there is no room for it.
+    /// Adds the step to the sum, which is its reply, and records it. A smaller step than the least is left out: it has
+    /// the sum for its reply too, but isn't recorded. None exactly where a step isn't left out and has no room.
     fn step(&mut self, caller: u32, step: u32) -> Option<u64> {
         let Counter { bounds, sum, log } = self;
+        if step < bounds.least {
+            return Some(*sum);
+        }
         if log.len() >= bounds.most as usize || u64::from(step) > bounds.limit - *sum {
             return None;
         }
-        log.push_reserved(Entry { caller, step });
+        log.push_reserved((caller, step));
         *sum += u64::from(step);
         Some(*sum)
     }

@@ -76,7 +76,7 @@ fn from_next<R: Threads + Wait + Sync>(
 }
 
 /// Lets `callers` callers make `steps` steps each, 0 and so on, and gives the counter back. The callers are those below
-/// `callers`. Each step is in the list then, or the counter has no room for it.
+/// `callers`. Each step is in the list then, or the counter leaves it out, or has no room for it.
 ///
 /// # Errors
 ///

@@ -1,8 +1,7 @@
-use Rattle.std.proofs.Common.{◌≡◌, ℕ, ◌<◌, Some, ◌∙◌, ⊎_elim, subst, sym, arith}
+use Rattle.std.proofs.Common.{◌≡◌, ℕ, ◌<◌, ◌∙◌, ⊎_elim, subst, sym, arith}
 use Rattle.std.proofs.lemmas.Bool.{cases_lt}
 use Rattle.bench_lock.proofs.Following.{Follows-stepped}
 use Rattle.lock_callers.specs.Counted.{IsServed}
-use Rattle.lock_callers.specs.declared.counter.Bounds.{Bounds}
 use Rattle.lock_callers.proofs.Serving.{served-on, seen-on, stepped-served}
 use Rattle.lock_callers.proofs.make_steps.Goals as goal
 

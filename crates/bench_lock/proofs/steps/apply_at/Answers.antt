@@ -16,6 +16,6 @@ count-requires-clause-held g c = let t = c.wait_turn.ensures.1 in let s = c.step
       s.1,
       s.3,
       omega arith,
-      adds_up g.M.Machine.opening g.M.Machine.list g.M.Machine.allows g.M.Machine.records c.args.seat.now.me.0 c.draw-ticket.new.seat.me c.wait_turn.new.seat.me c.step-reply.new.seat.me
+      adds_up g.M.Machine.list c.args.seat.now.me.0 c.draw-ticket.new.seat.me c.wait_turn.new.seat.me c.step-reply.new.seat.me
           _ t.0 s.0 s.1 c.args.caller _ _ _ _ c.requires.rests.2 c.draw-ticket.ensures.1 t.1.0 s.2 c.step-reply.ensures.same.1 s.6 s.7 s.8,
     )

@@ -1,7 +1,7 @@
 use Rattle.std.proofs.Common.{ap, ◌∙◌, ◌≡◌, arith}
 use Rattle.bench_lock.specs.Views.{compared_view}
 use Rattle.bench_lock.proofs.Keeps.{joins, compares}
-use Rattle.bench_lock.proofs.SeatSteps.{joins_both}
+use Rattle.bench_lock.proofs.SeatSteps.{joins_both, joins_own}
 use Rattle.bench_lock.proofs.steps.join_at.Goals as goal
 
 pub join_seat-requires : goal.join_seat-requires
@@ -23,4 +23,8 @@ returns-clause-seat g c = let l = c.load.ensures in let j = c.join_seat.ensures 
 
 pub returns-clause-both : goal.returns-clause-both
 returns-clause-both g c = let l = c.load.ensures.2 in let j = c.join_seat.ensures in
-    joins_both g.M.Machine.opening g.M.Machine.list c.args.seat.now.me.0 c.args.other.me.0 c.join_seat.new.seat.me.0 c.load.new.seat.me.0 (ap (λ m. m.0) j.2) (ap (λ m. m.0) l.0) l.1
+    joins_both c.args.seat.now.me.0 c.args.other.me.0 c.join_seat.new.seat.me.0 c.load.new.seat.me.0 (ap (λ m. m.0) j.2) (ap (λ m. m.0) l.0) l.1
+
+pub returns-clause-own : goal.returns-clause-own
+returns-clause-own g c = let l = c.load.ensures.2 in let j = c.join_seat.ensures in
+    joins_own c.args.seat.now.me.0 c.args.other.me.0 c.join_seat.new.seat.me.0 c.load.new.seat.me.0 (ap (λ m. m.0) j.2) (ap (λ m. m.0) l.0) c.requires.rests.0.0 l.2
