@@ -1,5 +1,5 @@
 -- Memory at the opening of a world is memory at the opening by its table.
-use Rattle.std.proofs.Common.{◌≡◌, ◌≤◌, ℕ, zero, suc, List, length, replicate, slice_index, refl}
+use Rattle.std.proofs.Common.{◌≡◌, ◌≤◌, ℕ, zero, suc, length, replicate, slice_index, refl}
 use Rattle.std.proofs.lemmas.List.{length-replicate}
 use Rattle.bench_words.specs.Memory.{IsZero}
 use Rattle.host_map.specs.declared.TheConstants.{MEMORY_BYTES}
