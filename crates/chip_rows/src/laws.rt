@@ -3,7 +3,7 @@
 ghost use Rattle.chip_rows.specs.Answers.{HasOneAnswer, HasOneEnd};
 ghost use Rattle.chip_rows.specs.Following.{Follows, StepsFollow};
 ghost use Rattle.chip_rows.specs.Bytes.{StepsKeepBytes};
-ghost use Rattle.chip_rows.specs.Words.{MovesWords};
+ghost use Rattle.chip_rows.specs.Words.{MovesWords, FindsWords, LoadsWords, StoresWords};
 ghost use Rattle.chip_rows.specs.Reading.{ReadsWithin};
 ghost use Rattle.chip_rows.specs.Leaving.{KeepsSize, WritesWithin, StaysWithin, NoRowWrites, StopsLeaveMemory, RunsOn, CountsDown};
 
@@ -30,9 +30,12 @@ pub fn bytes_stay_bytes<B: Bus>()
     ensures { StepsKeepBytes B.moves }
 {}
 
-/// LOAD and STORE of four bytes move one word.
-pub fn moves_words()
-    ensures { MovesWords }
+/// LOAD and STORE of four bytes of a wide register move one word, and find it absolutely or from DSA on.
+pub fn moves_words<B: Bus>()
+    ensures bytes { MovesWords }
+    ensures finds { FindsWords }
+    ensures load { LoadsWords B }
+    ensures store { StoresWords B }
 {}
 
 /// A step keeps the size of memory. It changes bytes within what its instruction writes, which is a part of what this

@@ -1,5 +1,5 @@
 -- A request has one reason to be refused or makes one desk, and so has a ticket that is freed.
-use Rattle.std.proofs.Common.{◌≡◌, ℕ, Bool, true, false, List, Option, Some, None, sym, ap, ◌∙◌}
+use Rattle.std.proofs.Common.{◌≡◌, ℕ, Bool, true, false, List, [], ◌∷◌, Option, Some, None, sym, ap, subst, ◌∙◌}
 use Rattle.rig_types.specs.declared.step.Line.{Line}
 use Rattle.unit_law.specs.Request.{PlainRequest}
 use Rattle.dma_buddy.specs.declared.buddies.Chunk.{Chunk}

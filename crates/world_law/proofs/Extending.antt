@@ -1,5 +1,5 @@
 -- A run stays a run where a submitter gets one more line.
-use Rattle.std.proofs.Common.{arith, ◌≡◌, ◌≢◌, ◌<◌, ◌≤◌, ℕ, zero, suc, ◌+◌, ◌==◌, Bool, true, false, ◌&&◌, List, [], ◌∷◌, ◌++◌, length, position, replicate, slice_get, slice_set, slice_index_or, Option, Some, None, refl, sym, ap, subst, ◌∙◌, ◌⊎◌, inl, inr}
+use Rattle.std.proofs.Common.{arith, ◌≡◌, ◌≢◌, ◌<◌, ◌≤◌, ℕ, zero, suc, ◌+◌, Bool, true, false, List, [], ◌∷◌, ◌++◌, length, position, replicate, slice_get, slice_set, slice_index_or, Option, refl, sym, ap, subst, ◌∙◌, ◌⊎◌, inl, inr}
 use Rattle.std.proofs.lemmas.List.{get_or-set_same, get_or-set_other, length-set}
 use Rattle.std.proofs.lemmas.Bool.{and_parts}
 use Rattle.rig_types.specs.declared.commands.Command.{Command}
@@ -10,11 +10,11 @@ use Rattle.world_law.specs.declared.reply.Decided.{Decided}
 use Rattle.world_law.specs.declared.reply.Reply.{Reply}
 use Rattle.world_law.specs.World.{Setting, World, commands_of, lines_of, command_at}
 use Rattle.world_law.specs.Opening.{opened}
-use Rattle.world_law.specs.Lines.{next_command, waits_of, blocks, blocking, all_decided, drained}
+use Rattle.world_law.specs.Lines.{next_command, waits_of, blocks, all_decided, drained}
 use Rattle.world_law.specs.Enabling.{MayBuild, Enabled}
 use Rattle.world_law.specs.Builds.{BuildsOf}
 use Rattle.world_law.specs.Steps.{Does}
-use Rattle.world_law.specs.Runs.{Moment, decides_line, is_recorded, Steps, IsRun}
+use Rattle.world_law.specs.Runs.{Moment, decides_line, is_recorded, IsRun}
 use Rattle.world_law.specs.Laws.{longer}
 use Rattle.world_law.proofs.Effects.{LinesGo, Effect, effect}
 use Rattle.world_law.proofs.Drained.{no-line-left}

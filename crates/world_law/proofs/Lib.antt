@@ -7,3 +7,4 @@ pub mod Numbering
 pub mod Callers
 pub mod Extending
 pub mod OneRun
+pub mod Opens

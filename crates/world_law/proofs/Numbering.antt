@@ -1,11 +1,10 @@
 -- The tickets of a run are numbered as they were accepted, and every report is of one of them, at most once.
-use Rattle.std.proofs.Common.{arith, ◌≡◌, ◌≢◌, ◌<◌, ◌≤◌, ℕ, zero, suc, ◌+◌, ◌==◌, ◌||◌, not, Bool, true, false, List, [], ◌∷◌, ◌++◌, length, slice_index_or, Option, Some, None, refl, sym, ap, subst, ◌∙◌, ◌⊎◌, inl, inr}
+use Rattle.std.proofs.Common.{arith, ◌≡◌, ◌≢◌, ◌<◌, ℕ, zero, suc, ◌+◌, ◌==◌, ◌||◌, not, Bool, true, false, List, [], ◌∷◌, ◌++◌, length, slice_index_or, Option, Some, None, refl, sym, ap, subst, ◌∙◌, inl, inr}
 use Rattle.std.specs.List.{All, AllPairs, list_any, range_with_len, cons_option}
 use Rattle.std.proofs.lemmas.List.Elements.{All-append}
 use Rattle.std.proofs.lemmas.List.Quantifiers.{all_pairs_push}
 use Rattle.rig_types.specs.declared.report.Report.{Report}
-use Rattle.desk_law.specs.declared.ticket.Ticket.{Ticket}
-use Rattle.desk_law.specs.Desk.{no_ticket, ticket, is_freed}
+use Rattle.desk_law.specs.Desk.{ticket, is_freed}
 use Rattle.world_law.specs.declared.reply.Reply.{Reply}
 use Rattle.world_law.specs.World.{Setting, World}
 use Rattle.world_law.specs.Opening.{opened}

@@ -1,5 +1,5 @@
 -- A list of entries has one run, and a trace one lawful list.
-use Rattle.std.proofs.Common.{◌≡◌, ℕ, List, [], ◌∷◌, Option, Some, None, map, refl, sym, ap, subst, ◌∙◌}
+use Rattle.std.proofs.Common.{◌≡◌, ℕ, List, [], ◌∷◌, refl, sym, ap, subst, ◌∙◌}
 use Rattle.chip_step.specs.Chip.{Chip}
 use Rattle.chip_step.specs.declared.outcome.StepEnd.{StepEnd}
 use Rattle.bus_law.specs.Bus.{BusState}
@@ -26,7 +26,7 @@ use Rattle.world_law.proofs.Patching.{once}
 chip-once : (old : World) (word : ℕ) (a b : Reply) (new other : World) → RunsChip old word a new → RunsChip old word b other → (a ≡ b) × (new ≡ other)
 chip-once old word a b new other h k =
     let e : (h.end ≡ k.end) × (h.chip ≡ k.chip) =
-        steps_once old.desk.units (live old.desk) word (chip_of old) h.end k.end h.chip k.chip h.ran k.ran in
+    steps_once old.desk.units (live old.desk) word (chip_of old) h.end k.end h.chip k.chip h.ran k.ran in
     let made : StepEnd → World = λ x. after_chip old x h.chip in
     (h.answer_is ∙ ap (λ (x : StepEnd). reply_for x) e.0 ∙ sym k.answer_is, h.world ∙ ap made e.0 ∙ ap (λ (c : Chip BusState). after_chip old k.end c) e.1 ∙ sym k.world)
 

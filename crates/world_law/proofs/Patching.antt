@@ -1,5 +1,5 @@
 -- A step of the driver has one answer and leaves one world.
-use Rattle.std.proofs.Common.{◌≡◌, ℕ, ◌-◌, List, [], ◌∷◌, ◌++◌, Option, Some, None, slice_get, sym, ap, ◌∙◌, ◌⊎◌, inl, inr}
+use Rattle.std.proofs.Common.{◌≡◌, ℕ, ◌-◌, List, [], ◌∷◌, ◌++◌, Option, Some, None, slice_get, sym, ap, ◌∙◌, inl, inr}
 use Rattle.rig_types.specs.declared.commands.Command.{Command}
 use Rattle.rig_types.specs.declared.acts.Act.{Act}
 use Rattle.rig_types.specs.declared.step.Line.{Line}
@@ -65,13 +65,13 @@ one-move (Some z) x y h k = let e : z ≡ x = cc in let f : z ≡ y = cc in sym 
 fixes-once : (old new other : World) → Fixes old new → Fixes old other → new ≡ other
 fixes-once old new other h k = elim h [
   | inl x ↦ elim k [
-      | inl y ↦ x.world ∙ ap (fixed old) (one-move (move_at (old.regs.dsp - 8)) x.move y.move x.is y.is) ∙ sym y.world
-      | inr y ↦ absurd (y.0 x.can_fix)
-    ]
+    | inl y ↦ x.world ∙ ap (fixed old) (one-move (move_at (old.regs.dsp - 8)) x.move y.move x.is y.is) ∙ sym y.world
+    | inr y ↦ absurd (y.0 x.can_fix)
+  ]
   | inr x ↦ elim k [
-      | inl y ↦ absurd (x.0 y.can_fix)
-      | inr y ↦ x.1 ∙ sym y.1
-    ]
+    | inl y ↦ absurd (x.0 y.can_fix)
+    | inr y ↦ x.1 ∙ sym y.1
+  ]
 ]
 
 takes-once : (o : Option ℕ) (old : World) (a b : Reply) (new other : World) → TakesOf o old a new → TakesOf o old b other → (a ≡ b) × (new ≡ other)

@@ -1,5 +1,5 @@
 -- What the changes of a step mean for each ticket.
-use Rattle.std.proofs.Common.{arith, ◌≡◌, ◌≢◌, ◌<◌, ◌≤◌, ℕ, zero, suc, ◌+◌, Bool, true, false, List, [], ◌∷◌, ◌++◌, length, slice_set, slice_index_or, Option, Some, None, refl, sym, ap, subst, ◌∙◌, ◌⊎◌, inl, inr}
+use Rattle.std.proofs.Common.{arith, ◌≡◌, ◌≢◌, ◌<◌, ◌≤◌, ℕ, zero, suc, ◌+◌, Bool, true, false, List, [], ◌∷◌, ◌++◌, length, slice_set, slice_index_or, Option, refl, sym, ap, subst, ◌∙◌, ◌⊎◌, inl, inr}
 use Rattle.std.proofs.lemmas.List.{get_or-set_same, get_or-set_other, length-set, length-append}
 use Rattle.rig_types.specs.declared.report.Report.{Report}
 use Rattle.desk_law.specs.declared.ticket.Ticket.{Ticket}
@@ -57,10 +57,10 @@ WasFreed told old t = ((t < length old) × (is_freed (at old t).stage ≡ true))
 changed-was : (caller : ℕ) (old new : List Ticket) (told : List Report) (x : OneChanges told caller old new) (t : ℕ) → (t ≡ x.number) ⊎ (t ≢ x.number) → t < length new → is_freed (at new t).stage ≡ true → WasFreed told old t
 changed-was caller old new told x t (inl e) l f = elim x.freed [
   | inl u ↦
-    let here : at new t ≡ x.ticket =
-        ap (λ (ks : List Ticket). at ks t) x.are ∙ ap (λ (n : ℕ). at (slice_set old x.number x.ticket) n) e
-        ∙ get_or-set_same old x.number x.ticket no_ticket (not-freed-within old x.number x.goes_on.live) in
-    clash (is_freed (at new t).stage) f (ap (λ (k : Ticket). is_freed k.stage) here ∙ u)
+      let here : at new t ≡ x.ticket =
+      ap (λ (ks : List Ticket). at ks t) x.are ∙ ap (λ (n : ℕ). at (slice_set old x.number x.ticket) n) e
+      ∙ get_or-set_same old x.number x.ticket no_ticket (not-freed-within old x.number x.goes_on.live) in
+      clash (is_freed (at new t).stage) f (ap (λ (k : Ticket). is_freed k.stage) here ∙ u)
   | inr y ↦ inr (subst (λ (n : ℕ). IsTold told n) (sym e) y)
 ]
 changed-was caller old new told x t (inr n) l f =
@@ -76,7 +76,7 @@ below-end (suc t) (suc n) l m = omega (arith, below-end t n (omega (arith, l)) (
 added-was : (caller : ℕ) (old new : List Ticket) (told : List Report) (x : OneMore caller old new) (t : ℕ) → t < length new → is_freed (at new t).stage ≡ true → WasFreed told old t
 added-was caller old new told x t l f = elim (more-at old x.ticket t) [
   | inl e ↦
-    inl (below-end t (length old) (omega (arith, l, ap (λ (ks : List Ticket). length ks) x.are, length-append old (x.ticket ∷ []))) e.1, sym (ap (λ (ks : List Ticket). is_freed (at ks t).stage) x.are ∙ ap (λ (k : Ticket). is_freed k.stage) e.0) ∙ f)
+      inl (below-end t (length old) (omega (arith, l, ap (λ (ks : List Ticket). length ks) x.are, length-append old (x.ticket ∷ []))) e.1, sym (ap (λ (ks : List Ticket). is_freed (at ks t).stage) x.are ∙ ap (λ (k : Ticket). is_freed k.stage) e.0) ∙ f)
   | inr p ↦ clash (is_freed (at new t).stage) f (ap (λ (ks : List Ticket). is_freed (at ks t).stage) x.are ∙ ap (λ (k : Ticket). is_freed k.stage) p.0 ∙ x.live)
 ]
 

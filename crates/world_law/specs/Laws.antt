@@ -1,15 +1,16 @@
 -- Laws of the world and of runs.
-use Rattle.std.specs.Prelude.{◌≡◌, ◌≢◌, ◌<◌, ℕ, ◌==◌, Bool, true, false, List, [], ◌∷◌, ◌++◌, length, slice_set}
+use Rattle.std.specs.Prelude.{◌≡◌, ◌≢◌, ◌<◌, ◌≤◌, ℕ, ◌==◌, Bool, true, false, List, [], ◌∷◌, ◌++◌, length, slice_set}
 use Rattle.std.specs.List.{range_with_len, list_any, All, AllPairs}
 use Rattle.rig_types.specs.declared.step.Step.{Step}
 use Rattle.rig_types.specs.declared.step.Entry.{Entry}
 use Rattle.rig_types.specs.declared.report.Report.{Report}
 use Rattle.rig_types.specs.declared.commands.Command.{Command}
+use Rattle.opening_memory.specs.Opening.{IsOpening}
 use Rattle.desk_law.specs.declared.ticket.Ticket.{Ticket}
 use Rattle.desk_law.specs.Desk.{ticket, lives, due}
 use Rattle.world_law.specs.declared.reply.Reply.{Reply}
 use Rattle.world_law.specs.World.{Setting, World, commands_of, lines_of}
-use Rattle.world_law.specs.Opening.{opened}
+use Rattle.world_law.specs.Opening.{memory_opened, opened}
 use Rattle.world_law.specs.Lines.{is_unqueued, drained}
 use Rattle.world_law.specs.Enabling.{Enabled}
 use Rattle.world_law.specs.Steps.{Does}
@@ -19,6 +20,10 @@ use Rattle.world_law.specs.Traces.{trace}
 -- a run one moment longer is the run, and then this moment in the world after it
 abbrev pub GoesOn : Type 0
 GoesOn = (g : Setting) (w : World) (ms : List Moment) (m : Moment) → IsRun g w ms → Steps g (last w ms) m → IsRun g w (ms ++ m ∷ [])
+
+-- host memory at the opening holds the words of its table, and 0 elsewhere
+abbrev pub OpensMemory : Type 0
+OpensMemory = (g : Setting) → length g.units ≤ 16 → IsOpening (memory_opened g.version g.units) g.version g.units
 
 -- in a drained world no step is enabled
 abbrev pub RestsDrained : Type 0

@@ -1,5 +1,5 @@
 -- The room of logs: as many entries as steps of the chip may add before room is made again (own).
-use Rattle.std.specs.Prelude.{ℕ, ◌+◌, ◌*◌, List, map, fold, Option, Some, None}
+use Rattle.std.specs.Prelude.{ℕ, ◌+◌, ◌*◌, map, fold, Option, Some, None}
 use Rattle.std.specs.List.{range_with_len}
 use Rattle.rig_types.specs.declared.rig.Unit.{Unit as RigUnit}
 use Rattle.target_law.specs.Target.{LogicalUnit, unit_at}

@@ -1,6 +1,11 @@
 //! Laws of the world. Each function does nothing; its contract is the law.
 
-ghost use Rattle.world_law.specs.Laws.{GoesOn, RestsDrained, DoesOnce, RunsOnce, TracesOne, ReportsAccepted, ReportsAll, OthersLeave, Extends};
+ghost use Rattle.world_law.specs.Laws.{OpensMemory, GoesOn, RestsDrained, DoesOnce, RunsOnce, TracesOne, ReportsAccepted, ReportsAll, OthersLeave, Extends};
+
+/// Host memory at the opening is that of opening_memory's table.
+pub fn opens_memory()
+    ensures { OpensMemory }
+{}
 
 /// A run one moment longer is the run, and then this moment.
 pub fn one_moment_longer()

@@ -7,7 +7,8 @@ mod owner;
 mod reply;
 
 pub use laws::{
-    longer_works, one_moment_longer, one_run, others_leave, reports_accepted, rests_drained,
+    longer_works, one_moment_longer, one_run, opens_memory, others_leave, reports_accepted,
+    rests_drained,
 };
 pub use owner::Owner;
 pub use reply::{Decided, Reply, Seen, Stop};
