@@ -1,13 +1,14 @@
 -- What follows from one call's answer.
-use Rattle.std.proofs.Common.{◌≡◌, ℕ, Bool, true, false, List, ◌∷◌, refl, ap, ◌∙◌, Option, Some, None, ◌⊎◌, inl, inr}
+use Rattle.std.proofs.Common.{◌≡◌, ℕ, ◌<◌, ◌%◌, arith, Bool, true, false, List, ◌∷◌, refl, ap, ◌∙◌, Option, Some, None, ◌⊎◌, inl, inr}
 use Rattle.scsi_words.specs.declared.phases.kinds.Phase.{Phase as BusPhase}
-use Rattle.chip_step.specs.Event.{Event, Phase, Shown, ByteIn, ByteOut, Select, Reselect, SetAtn, ClearAck, Leave}
+use Rattle.chip_step.specs.Event.{Event, call_of, Phase, Shown, ByteIn, ByteOut, Select, Reselect, SetAtn, ClearAck, Leave}
 use Rattle.chip_step.specs.declared.scsi_bus.Settled.{Settled}
 use Rattle.chip_step.specs.declared.scsi_bus.Settled.TheVariants.{Selected, TimedOut}
 use Rattle.target_law.specs.Target.{Target, linked}
-use Rattle.target_law.specs.Calls.{is_free, link_phase, whole_by, target_selected, link_byte, link_sent, link_takes, link_took}
-use Rattle.straight_run.specs.Reading.{Answers, call_of}
-use Rattle.one_target.specs.Bus.{BusState, begins, begun_where, is_to_choose, ChoosesWhere, GoesOn, Turns, become, ack_by, ComesIn, StaysOut, after_atn, after_ack, moves}
+use Rattle.target_law.specs.Beginning.{target_took}
+use Rattle.target_law.specs.Calls.{is_free, link_phase, target_selected, link_byte, link_sent, link_takes}
+use Rattle.straight_run.specs.Reading.{Answers}
+use Rattle.one_target.specs.Bus.{BusState, live_ticket, is_to_choose, GoesOn, Turns, become, becomes, as_byte, ack_by, ComesIn, StaysOut, after_atn, after_ack, moves}
 
 -- which call it is
 phase-only : (word : ℕ) (given : Event) → call_of given ≡ Phase word None → (x : Option BusPhase) × (given ≡ Phase word x)
@@ -87,14 +88,10 @@ leave-only word (SetAtn on) e = absurd cc
 leave-only word ClearAck e = absurd cc
 leave-only word (Leave w x) e = let f : w ≡ word = cc in (x, ap (λ (v : ℕ). Leave v x) f)
 
--- a target that shows a phase, with no whole descriptor block
+-- a target that shows a phase
 pub record Shows (b : BusState) (shown : BusPhase) : Type 0 where
   pub bound : is_free b.target.link ≡ false
-  pub begun : whole_by b.target.link ≡ false
   pub phase : link_phase b.target.link ≡ Some shown
-
-stays_begun : (b : BusState) (shown : BusPhase) → Shows b shown → begins b.target ≡ b.target
-stays_begun b shown s = ap (λ (x : Bool). begun_where x b.target) s.begun
 
 not_to_choose : (b : BusState) (shown : BusPhase) → Shows b shown → is_to_choose b.target.link ≡ false
 not_to_choose b shown s = rw (s.bound, s.phase) refl
@@ -102,8 +99,7 @@ not_to_choose b shown s = rw (s.bound, s.phase) refl
 turns-shown : (b mid : BusState) (shown : BusPhase) → Shows b shown → Turns 0 b mid → mid ≡ b
 turns-shown b mid shown s t =
     let g : GoesOn 0 b mid = rw s.bound at t in
-    let h : ChoosesWhere (is_to_choose b.target.link) b.atn b.rooms 0 b.target g.target = rw (stays_begun b shown s) at g.chooses in
-    let e : g.target ≡ b.target = rw (not_to_choose b shown s) at h in
+    let e : g.target ≡ b.target = rw (not_to_choose b shown s) at g.chooses in
     let f : is_free g.target.link ≡ false = ap (λ (x : Target). is_free x.link) e ∙ s.bound in
     let i : become (is_free g.target.link) b g.target ≡ record b { target = g.target } = ap (λ (x : Bool). become x b g.target) f in
     g.becomes_it ∙ i ∙ ap (λ (x : Target). record b { target = x }) e
@@ -128,22 +124,23 @@ module _ (P : BusState → Type 0) where
       let m' : after ≡ after_ack b = rw g at m in
       (g, rw m' a)
 
-  pub takes : (byte : ℕ) (b : BusState) (es : List Event) → link_takes b.target.link ≡ true → Answers moves es P (record b { target = linked b.target (link_took b.target.link byte) }) → Answers moves (ByteOut byte true ∷ es) P b
+  pub takes : (byte : ℕ) (b : BusState) (es : List Event) → link_takes b.target.link ≡ true → Answers moves es P (becomes b (target_took live_ticket b.target byte)) → Answers moves (ByteOut byte true ∷ es) P b
   takes byte b es t a = λ given after e m.
       let g : (x : Bool) × (given ≡ ByteOut byte x) = byte_out-only byte given e in
       let m' : moves b (ByteOut byte g.0) after = rw g.1 at m in
-      let m'' : (g.0 ≡ true) × (after ≡ record b { target = linked b.target (link_took b.target.link byte) }) = rw t at m' in
+      let m'' : (g.0 ≡ true) × (after ≡ becomes b (target_took live_ticket b.target byte)) = rw t at m' in
       (g.1 ∙ ap (λ (x : Bool). ByteOut byte x) m''.0, rw m''.1 a)
 
-  pub gives : (byte : ℕ) (b : BusState) (es : List Event) → b.asked ≡ link_phase b.target.link → link_byte b.target.link ≡ Some byte →
+  pub gives : (byte : ℕ) (b : BusState) (es : List Event) → byte < 256 → b.asked ≡ link_phase b.target.link → link_byte b.target.link ≡ Some byte →
       Answers moves es P (record b { target = linked b.target (link_sent b.target.link); ack = ack_by (Some byte) (link_phase b.target.link) b.ack }) → Answers moves (ByteIn (Some byte) ∷ es) P b
-  gives byte b es q t a = λ given after e m.
+  gives byte b es small q t a = λ given after e m.
       let g : (x : Option ℕ) × (given ≡ ByteIn x) = byte_in-only given e in
       let m' : ComesIn b g.0 after ⊎ StaysOut b g.0 after = rw g.1 at m in
       elim m' [
         | inl x ↦
             let here : after ≡ record b { target = linked b.target (link_sent b.target.link); ack = ack_by (Some byte) (link_phase b.target.link) b.ack } = rw t at x.after in
-            (g.1 ∙ ap (λ (o : Option ℕ). ByteIn o) (x.byte_is ∙ t), rw here a)
+            let whole : byte % 256 ≡ byte = omega arith in
+            (g.1 ∙ ap (λ (o : Option ℕ). ByteIn o) (x.byte_is ∙ ap as_byte t ∙ ap (λ (n : ℕ). Some n) whole), rw here a)
         | inr x ↦ absurd (x.unasked q)
       ]
 

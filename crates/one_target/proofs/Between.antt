@@ -10,9 +10,10 @@ use Rattle.target_law.specs.declared.showing.Showing.TheVariants.{Choosing, Hear
 use Rattle.target_law.specs.Session.{Task, began}
 use Rattle.target_law.specs.Bytes.{Connection, phase_of, byte_by, takes_by, sent_by}
 use Rattle.target_law.specs.Target.{LogicalUnit, Link, Free, Greeted, Commanded, Working, Straying, Target, unit_at, with_unit, on_unit, linked, unit_left}
-use Rattle.target_law.specs.Calls.{is_free, link_phase, nexus_of, whole_by, target_selected, target_acted, asked_by, link_byte, link_sent, sent_if, link_takes, took_if, target_messaged, target_acked, target_begun, begun, begun_with, begun_by, has_tag, has_ended}
-use Rattle.one_target.specs.Bus.{BusState, if_fits, with_room, become, live_ticket, begun_of, begun_where, begins, is_to_choose, SettlesWhere, LeavesBus, Acts, Chooses, ChoosesWhere, GoesOn, TurnsWhere, Turns, ack_by, ComesIn, StaysOut, SelectsWhere, is_message, messaged_where, after_atn, acked_where, moves}
-use Rattle.scsi_target.specs.Devices.{lie_within}
+use Rattle.target_law.specs.Beginning.{begins_if, ticket_for, took_where, target_took}
+use Rattle.target_law.specs.Calls.{is_free, link_phase, nexus_of, whole_by, target_selected, target_acted, asked_by, link_byte, link_sent, sent_if, link_takes, link_took, target_messaged, target_acked, target_begun, begun, begun_with, begun_by, has_tag, has_ended}
+use Rattle.one_target.specs.Bus.{BusState, if_fits, with_room, become, live_ticket, taken_where, is_to_choose, SettlesWhere, LeavesBus, Acts, Chooses, ChoosesWhere, GoesOn, TurnsWhere, Turns, ack_by, ComesIn, StaysOut, SelectsWhere, is_message, messaged_where, after_atn, acked_where, moves}
+use Rattle.target_law.specs.Devices.{lie_within}
 use Rattle.cdb_codec.specs.declared.commands.Cdb.{Cdb}
 use Rattle.cdb_codec.specs.Blocks.{cdb_of}
 use Rattle.cdb_codec.specs.Forms.{need_of}
@@ -54,13 +55,12 @@ said-takes (Saying n sent) e = refl
 
 pub record Waits (l : Link) : Type 0 where
   pub bound : is_free l ≡ false
-  pub begun : whole_by l ≡ false
   pub phase : link_phase l ≡ Some phase.MsgIn
   pub takes : link_takes l ≡ false
   pub none : link_byte l ≡ None
 
 pub waits : (l : Link) → awaits_ack l ≡ true → Waits l
-waits (Working c) e = record { bound = refl; begun = refl; phase = said-phase c.shows e; takes = said-takes c.shows e; none = said-byte c.shows c.task c.lun e }
+waits (Working c) e = record { bound = refl; phase = said-phase c.shows e; takes = said-takes c.shows e; none = said-byte c.shows c.task c.lun e }
 waits Free e = absurd cc
 waits (Greeted heard) e = absurd cc
 waits (Commanded n taken) e = absurd cc
@@ -81,18 +81,22 @@ sent-awaits (Greeted heard) o e = absurd (let f : Some phase.MsgOut ≡ Some pha
 sent-awaits (Commanded n taken) o e = absurd (let f : Some phase.Command ≡ Some phase.MsgIn = e in cc)
 sent-awaits (Straying s n) o e = absurd cc
 
+-- a byte is taken, and a task may begin
+kept-begins : (live : Nexus → Option ℕ) (whole : Bool) (t : Target) → IsKept t → IsKept (begins_if live whole t)
+kept-begins live true t k = kept-begun t (ticket_for live t (nexus_of t.link)) k
+kept-begins live false t k = k
+
+kept-took_where : (live : Nexus → Option ℕ) (taken : Bool) (t : Target) (byte : ℕ) → IsKept t → IsKept (took_where live taken t byte)
+kept-took_where live true t byte k =
+    let after : Target = linked t (link_took t.link byte) in
+    kept-begins live (whole_by after.link) after (kept-took t true byte k)
+kept-took_where live false t byte k = k
+
+kept-target_took : (t : Target) (byte : ℕ) → IsKept t → IsKept (target_took live_ticket t byte)
+unfolding target_took
+kept-target_took t byte k = kept-took_where live_ticket (link_takes t.link) t byte k
+
 -- the target's turn
-kept-begun_of : (o : Option Nexus) (t : Target) → IsKept t → IsKept (begun_of o t)
-kept-begun_of None t k = k
-kept-begun_of (Some n) t k = kept-begun t (live_ticket t n) k
-
-kept-begun_where : (whole : Bool) (t : Target) → IsKept t → IsKept (begun_where whole t)
-kept-begun_where true t k = kept-begun_of (nexus_of t.link) t k
-kept-begun_where false t k = k
-
-pub kept-begins : (t : Target) → IsKept t → IsKept (begins t)
-kept-begins t k = kept-begun_where (whole_by t.link) t k
-
 kept-if_fits : (fits : Bool) (old new : Target) → IsKept old → IsKept new → IsKept (if_fits fits old new)
 kept-if_fits true old new k l = l
 kept-if_fits false old new k l = k
@@ -110,7 +114,7 @@ with_room-fits rooms old new f = if_fits-fits rooms (lie_within new.units rooms)
 
 same_log-fits : (u v : LogicalUnit) (rooms : List ℕ) → v.log ≡ u.log → lie_within (slots u) rooms ≡ true → lie_within (slots v) rooms ≡ true
 unfolding lie_within
-same_log-fits u v [] e f = refl
+same_log-fits u v [] e f = rw e f
 same_log-fits u v (n ∷ ns) e f = rw e f
 
 -- a task leaves the bus
@@ -184,37 +188,35 @@ begun-units : (t : Target) (o : Option ℕ) → (target_begun t o).units ≡ t.u
 unfolding target_begun
 begun-units t o = begun_by-units t.link t o
 
-begun_of-units : (o : Option Nexus) (t : Target) → (begun_of o t).units ≡ t.units
-begun_of-units None t = refl
-begun_of-units (Some n) t = begun-units t (live_ticket t n)
+begins-units : (live : Nexus → Option ℕ) (whole : Bool) (t : Target) → (begins_if live whole t).units ≡ t.units
+begins-units live true t = begun-units t (ticket_for live t (nexus_of t.link))
+begins-units live false t = refl
 
-begun_where-units : (whole : Bool) (t : Target) → (begun_where whole t).units ≡ t.units
-begun_where-units true t = begun_of-units (nexus_of t.link) t
-begun_where-units false t = refl
+took_where-units : (live : Nexus → Option ℕ) (taken : Bool) (t : Target) (byte : ℕ) → (took_where live taken t byte).units ≡ t.units
+took_where-units live true t byte =
+    let after : Target = linked t (link_took t.link byte) in
+    begins-units live (whole_by after.link) after
+took_where-units live false t byte = refl
 
-pub begins-units : (t : Target) → (begins t).units ≡ t.units
-begins-units t = begun_where-units (whole_by t.link) t
+target_took-units : (t : Target) (byte : ℕ) → (target_took live_ticket t byte).units ≡ t.units
+unfolding target_took
+target_took-units t byte = took_where-units live_ticket (link_takes t.link) t byte
 
 become-held : (free : Bool) (b : BusState) (t : Target) → IsKept t → lie_within t.units b.rooms ≡ true → (b.ack ≡ true → awaits_ack t.link ≡ true) → IsHeld (become free b t)
 become-held true b t k f a = held (become true b t) k f (λ e. absurd cc)
 become-held false b t k f a = held (become false b t) k f a
 
 -- a target whose message byte waits makes no turn
-waiting-begins : (t : Target) → Waits t.link → begins t ≡ t
-waiting-begins t w = ap (λ (x : Bool). begun_where x t) w.begun
-
 waiting-chooses : (t : Target) → Waits t.link → is_to_choose t.link ≡ false
 waiting-chooses t w = rw (w.bound, w.phase) refl
 
-waiting-turns : (b : BusState) (word : ℕ) (t' : Target) → Waits b.target.link → ChoosesWhere (is_to_choose (begins b.target).link) b.atn b.rooms word (begins b.target) t' → t' ≡ b.target
-waiting-turns b word t' w m =
-    let n : ChoosesWhere (is_to_choose b.target.link) b.atn b.rooms word b.target t' = rw (waiting-begins b.target w) at m in
-    rw (waiting-chooses b.target w) at n
+waiting-turns : (b : BusState) (word : ℕ) (t' : Target) → Waits b.target.link → ChoosesWhere (is_to_choose b.target.link) b.atn b.rooms word b.target t' → t' ≡ b.target
+waiting-turns b word t' w m = rw (waiting-chooses b.target w) at m
 
 goes-held : (b b' : BusState) (word : ℕ) → IsHeld b → GoesOn word b b' → IsHeld b'
 goes-held b b' word h g =
-    let l : Left (begins b.target) g.target b.rooms = chooses_where-left (is_to_choose (begins b.target).link) b.atn b.rooms word (begins b.target) g.target (kept-begins b.target (kept-of b h)) g.chooses in
-    let f : lie_within g.target.units b.rooms ≡ true = l.fits (ap (λ (us : List (Option LogicalUnit)). lie_within us b.rooms) (begins-units b.target) ∙ h.fits) in
+    let l : Left b.target g.target b.rooms = chooses_where-left (is_to_choose b.target.link) b.atn b.rooms word b.target g.target (kept-of b h) g.chooses in
+    let f : lie_within g.target.units b.rooms ≡ true = l.fits h.fits in
     let a : b.ack ≡ true → awaits_ack g.target.link ≡ true = λ e.
     ap (λ (t : Target). awaits_ack t.link) (waiting-turns b word g.target (waits b.target.link (h.acknowledges e)) g.chooses) ∙ h.acknowledges e in
     subst IsHeld (sym g.becomes_it) (become-held (is_free g.target.link) b g.target l.kept f a)
@@ -250,10 +252,13 @@ byte_in-held b b' byte h m = elim m [
   | inr x ↦ subst IsHeld (sym x.same) h
 ]
 
-byte_out-held : (b : BusState) (byte : ℕ) → IsHeld b → IsHeld (record b { target = linked b.target (took_if (link_takes b.target.link) b.target.link byte) })
-byte_out-held b byte h =
-    held (record b { target = linked b.target (took_if (link_takes b.target.link) b.target.link byte) }) (kept-took b.target (link_takes b.target.link) byte (kept-of b h)) h.fits
-    (λ e. ap (λ (x : Bool). awaits_ack (took_if x b.target.link byte)) (waits b.target.link (h.acknowledges e)).takes ∙ h.acknowledges e)
+pub taken-held : (taken : Bool) (b : BusState) (byte : ℕ) → link_takes b.target.link ≡ taken → IsHeld b → IsHeld (taken_where taken b byte)
+taken-held false b byte e h = h
+taken-held true b byte e h =
+    let t : Target = target_took live_ticket b.target byte in
+    let f : lie_within t.units b.rooms ≡ true = ap (λ (us : List (Option LogicalUnit)). lie_within us b.rooms) (target_took-units b.target byte) ∙ h.fits in
+    become-held (is_free t.link) b t (kept-target_took b.target byte (kept-of b h)) f
+    (λ a. let w : link_takes b.target.link ≡ false = (waits b.target.link (h.acknowledges a)).takes in absurd cc)
 
 -- selection
 free_and : (a f : Bool) → a && f ≡ true → f ≡ true
@@ -297,7 +302,7 @@ moves-held b (Phase word shown) b' m h =
     subst IsHeld (sym m.3) (held (record m.0 { asked = shown }) (kept-of m.0 k) k.fits k.acknowledges)
 moves-held b (Shown shown) b' m h = subst IsHeld (sym m.1) h
 moves-held b (ByteIn byte) b' m h = byte_in-held b b' byte h m
-moves-held b (ByteOut byte taken) b' m h = subst IsHeld (sym m.1) (byte_out-held b byte h)
+moves-held b (ByteOut byte taken) b' m h = subst IsHeld (sym m.1) (taken-held (link_takes b.target.link) b byte refl h)
 moves-held b (Select target word settled) b' m h = selects-held (target == 0 && is_free b.target.link) b b' settled (λ e. free_and (target == 0) (is_free b.target.link) e) h m
 moves-held b (Reselect word by) b' m h = subst IsHeld (sym m.1) h
 moves-held b (SetAtn on) b' m h = subst IsHeld (sym m) (atn-held on b h)

@@ -1,6 +1,5 @@
 -- What the calls of the device want and give, where the bus of `one` holds.
-use Rattle.std.proofs.Common.{◌≡◌, ℕ, zero, suc, ◌<◌, ◌==◌, ◌&&◌, not, if◌then◌else◌, Bool, true, false, List, length, refl, ap, sym, ◌∙◌, subst, arith, Option, Some, None, IsSome}
-use Rattle.std.proofs.lemmas.Bool.Decides.{nat_tests}
+use Rattle.std.proofs.Common.{◌≡◌, ℕ, ◌==◌, ◌&&◌, not, nat_lt, if◌then◌else◌, Bool, true, false, List, [], ◌∷◌, ◌++◌, refl, ap, sym, ◌∙◌, subst, Option, Some, None}
 use Rattle.scsi_words.specs.declared.phases.kinds.Phase.{Phase as BusPhase}
 use Rattle.chip_step.specs.declared.scsi_bus.Settled.TheVariants.{Selected}
 use Rattle.rig_types.specs.declared.rig.Unit.{Unit as RigUnit}
@@ -8,14 +7,16 @@ use Rattle.target_law.specs.declared.moves.Move.{Move}
 use Rattle.target_law.specs.declared.nexus.Nexus.{Nexus}
 use Rattle.target_law.specs.Bytes.{Connection}
 use Rattle.target_law.specs.Target.{LogicalUnit, Link, Free, Greeted, Commanded, Working, Straying, Target, unit_at, linked, leaves}
-use Rattle.target_law.specs.Calls.{is_free, link_phase, nexus_of, candidates, candidates_by, is_rogue, target_selected, target_acted, asked_by, target_messaged, target_acked}
+use Rattle.target_law.specs.Beginning.{has_place, where_placed, begins_if, took_where, target_took}
+use Rattle.target_law.specs.Calls.{is_free, link_phase, nexus_of, is_whole, target_begun, link_takes, is_straying, is_absent, answers, target_selected, target_acted, asked_by, target_messaged, target_acked}
 use Rattle.target_law.specs.Lawful.{IsThere, Named, NamesOf}
-use Rattle.scsi_target.specs.Devices.{DeviceState, lie_within, where_room, HasUnit, HasPlace, HasPlaceFor, HasPlaceOf, IsAbsent}
-use Rattle.one_target.specs.Bus.{BusState, bus_of, if_fits, with_room, is_idle, live_ticket, is_to_choose, LeavesBus, Settles, SettlesWhere, ActsAt, begins, become, becomes, ChoosesWhere, GoesOn, TurnsWhere, Turns, is_message, messaged_where, acked_where, after_ack}
+use Rattle.target_law.specs.Devices.{DeviceState, lie_within, where_room}
+use Rattle.scsi_target.specs.Devices.{IsPresent}
+use Rattle.one_target.specs.Bus.{BusState, bus_of, if_fits, with_room, live_ticket, ticket_at, taken_where, is_to_choose, LeavesBus, Settles, SettlesWhere, ActsAt, become, becomes, ChoosesWhere, GoesOn, TurnsWhere, Turns, is_message, messaged_where, acked_where, after_ack}
 use Rattle.one_target.specs.Holding.{is_usual, is_of_one, IsHeld, IsHeldDevice}
 use Rattle.one_target.proofs.Slots.{slots, unit_at-slots}
-use Rattle.one_target.proofs.Keeping.{IsKept, not_rogue, quiet-of, kept-acted, zero-of, unit_at-other}
-use Rattle.one_target.proofs.Between.{kept-of, held, kept-begins, begins-units, kept-with_room, with_room-fits, Left, left-is, selects-held}
+use Rattle.one_target.proofs.Keeping.{IsKept, kept-acted, zero-of}
+use Rattle.one_target.proofs.Between.{kept-of, held, kept-with_room, with_room-fits, Left, left-is, selects-held}
 
 pub kept-device : (d : DeviceState) → IsHeldDevice d → IsKept d.target
 kept-device d h = kept-of (bus_of d false false None) h
@@ -24,46 +25,16 @@ kept-device d h = kept-of (bus_of d false false None) h
 unit-there : (t : Target) (k : IsKept t) → unit_at t.units 0 ≡ Some k.alone.unit
 unit-there t k = ap (λ (us : List (Option LogicalUnit)). unit_at us 0) k.alone.units_are ∙ unit_at-slots k.alone.unit
 
-pub has-unit : (d : DeviceState) → IsHeldDevice d → HasUnit d 0
-has-unit d h = subst (λ (o : Option LogicalUnit). IsThere o (λ u. Unit {0})) (sym (unit-there d.target (kept-device d h))) tt
+-- no units that break the rules are connected
+straying-none : (l : Link) → is_of_one l ≡ true → is_straying l ≡ false
+straying-none Free e = refl
+straying-none (Greeted heard) e = refl
+straying-none (Commanded n taken) e = refl
+straying-none (Working c) e = refl
+straying-none (Straying s n) e = absurd cc
 
-idle-by : (rogue : Bool) (u : LogicalUnit) (n : ℕ) → rogue ≡ false → n ≡ candidates_by rogue u → (n == 0) ≡ (length u.tasks == 0)
-idle-by true u n e h = absurd cc
-idle-by false u n e h = ap (λ (x : ℕ). x == 0) h
-
-pub idle-is : (d : DeviceState) (n : ℕ) → IsHeldDevice d → IsThere (unit_at d.target.units 0) (λ u. n ≡ candidates u) → (n == 0) ≡ is_idle (unit_at d.target.units 0)
-idle-is d n h m =
-    let k : IsKept d.target = kept-device d h in
-    let w : LogicalUnit = k.alone.unit in
-    let e : unit_at d.target.units 0 ≡ Some w = unit-there d.target k in
-    let m' : n ≡ candidates w = subst (λ (o : Option LogicalUnit). IsThere o (λ u. n ≡ candidates u)) e m in
-    idle-by w.rig.rogue w n (quiet-of w.rig k.alone.usual) m' ∙ ap is_idle (sym e)
-
--- a place for its task
-placed : (r : RigUnit) → is_usual r ≡ true → 0 < r.depth
-placed r e = grind (arith, nat_tests)
-
-live-idle : (a b c : Bool) → IsSome {T = ℕ} (if a && (b && c) then Some 0 else None) → (a ≡ true) × (c ≡ true)
-live-idle true true true s = (refl, refl)
-live-idle true true false s = absurd (let f : false ≡ true = s in cc)
-live-idle true false c s = absurd (let f : false ≡ true = s in cc)
-live-idle false b c s = absurd (let f : false ≡ true = s in cc)
-
-pub has-place : (d : DeviceState) (n : Nexus) → IsHeldDevice d → Some n ≡ nexus_of d.target.link → IsSome (live_ticket d.target n) → HasPlace d
-has-place d n h e s =
-    let k : IsKept d.target = kept-device d h in
-    let w : LogicalUnit = k.alone.unit in
-    let l : (n.lun == 0 ≡ true) × (is_idle (unit_at d.target.units 0) ≡ true) = live-idle (n.lun == 0) (n.tag == 0) (is_idle (unit_at d.target.units 0)) s in
-    let z : n.lun ≡ 0 = zero-of n.lun l.0 in
-    let there : unit_at d.target.units n.lun ≡ Some w = ap (λ (x : ℕ). unit_at d.target.units x) z ∙ unit-there d.target k in
-    let idle : is_idle (Some w) ≡ true = ap is_idle (sym (unit-there d.target k)) ∙ l.1 in
-    let none : length w.tasks ≡ 0 = zero-of (length w.tasks) idle in
-    let deep : 0 < w.rig.depth = placed w.rig k.alone.usual in
-    let room : HasPlaceFor n w = λ f. omega arith in
-    subst (λ (o : Option Nexus). HasPlaceOf o d) e (subst (λ (o : Option LogicalUnit). IsThere o (HasPlaceFor n)) (sym there) room)
-
-pub rogue-none : (d : DeviceState) → IsHeldDevice d → is_rogue d.target ≡ false
-rogue-none d h = not_rogue d.target (kept-device d h)
+pub lawful-link : (d : DeviceState) → IsHeldDevice d → is_straying d.target.link ≡ false
+lawful-link d h = straying-none d.target.link h.of_one
 
 -- a call whose entries may not fit
 room-by : (fits : Bool) (d : DeviceState) (t : Target) → (if fits then record { target = t; rooms = d.rooms } else d) ≡ record { target = if_fits fits d.target t; rooms = d.rooms }
@@ -152,15 +123,27 @@ settled d asked d' e h a m =
 pub act-rooms : (d after d' : DeviceState) (t : Target) → after ≡ where_room d t → d'.rooms ≡ after.rooms → d'.rooms ≡ d.rooms
 act-rooms d after d' t e f = f ∙ ap (λ (x : DeviceState). x.rooms) e ∙ where_room-rooms d t
 
-pub some-live : (d : DeviceState) (n : Nexus) (o : Option ℕ) → o ≡ live_ticket d.target n → IsHeldDevice d → Some n ≡ nexus_of d.target.link → IsSome o → HasPlace d
-some-live d n o e h f s = has-place d n h f (subst (λ (x : Option ℕ). IsSome x) e s)
+-- the live ticket of the connection's nexus is that of each nexus that the byte may name
+begins-live : (o : Option ℕ) (whole : Bool) (us : List (Option LogicalUnit)) (n : Nexus) (taken : List ℕ) → o ≡ live_ticket n →
+    begins_if (λ m. o) whole (record { units = us; link = Commanded n taken }) ≡ begins_if live_ticket whole (record { units = us; link = Commanded n taken })
+begins-live o false us n taken e = refl
+begins-live o true us n taken e = ap (λ (x : Option ℕ). target_begun (record { units = us; link = Commanded n taken }) (where_placed (has_place (unit_at us n.lun) n.tag) x)) e
 
--- the target's turn
-pub begun-held : (d d' : DeviceState) (atn ack : Bool) (asked : Option BusPhase) → IsHeld (bus_of d atn ack asked) → d' ≡ record { target = begins d.target; rooms = d.rooms } → IsHeldDevice d'
-begun-held d d' atn ack asked h e =
-    let b : DeviceState = record { target = begins d.target; rooms = d.rooms } in
-    let f : lie_within (begins d.target).units d.rooms ≡ true = ap (λ (us : List (Option LogicalUnit)). lie_within us d.rooms) (begins-units d.target) ∙ h.fits in
-    subst IsHeldDevice (sym e) (held (bus_of b false false None) (kept-begins d.target (kept-of (bus_of d atn ack asked) h)) f (λ x. absurd cc))
+took-where-live : (o : Option ℕ) (taken : Bool) (l : Link) (us : List (Option LogicalUnit)) (byte : ℕ) → o ≡ ticket_at (nexus_of l) →
+    took_where (λ n. o) taken (record { units = us; link = l }) byte ≡ took_where live_ticket taken (record { units = us; link = l }) byte
+took-where-live o false l us byte e = refl
+took-where-live o true Free us byte e = refl
+took-where-live o true (Greeted heard) us byte e = refl
+took-where-live o true (Commanded n taken) us byte e = begins-live o (is_whole (taken ++ byte ∷ [])) us n (taken ++ byte ∷ []) e
+took-where-live o true (Working c) us byte e = refl
+took-where-live o true (Straying s n) us byte e = refl
+
+pub device-held : (d : DeviceState) (atn ack : Bool) (asked : Option BusPhase) → IsHeld (bus_of d atn ack asked) → IsHeldDevice d
+device-held d atn ack asked h = held (bus_of d false false None) (kept-of (bus_of d atn ack asked) h) h.fits (λ e. absurd cc)
+
+pub took-live : (o : Option ℕ) (t : Target) (byte : ℕ) → o ≡ ticket_at (nexus_of t.link) → target_took (λ n. o) t byte ≡ target_took live_ticket t byte
+unfolding target_took
+took-live o t byte e = took-where-live o (link_takes t.link) t.link t.units byte e
 
 and_true : (a : Bool) → a && true ≡ a
 and_true true = refl
@@ -195,15 +178,35 @@ not-true : (free bound : Bool) → bound ≡ not free → bound ≡ true → fre
 not-true true bound e f = absurd cc
 not-true false bound e f = refl
 
-pub turned : (d d1 d2 : DeviceState) (atn ack was bound : Bool) (asked : Option BusPhase) (word : ℕ) → was ≡ not (is_free d.target.link) → was ≡ true → d1 ≡ record { target = begins d.target; rooms = d.rooms } →
-    ChoosesWhere (is_to_choose d1.target.link) atn d1.rooms word d1.target d2.target → d2.rooms ≡ d1.rooms → bound ≡ not (is_free d2.target.link) →
-    Turns word (bus_of d atn ack asked) (bus_of d2 (atn && bound) (ack && bound) asked)
-turned d d1 d2 atn ack was bound asked word w t e m r f =
-    let c : ChoosesWhere (is_to_choose (begins d.target).link) atn d.rooms word (begins d.target) d2.target =
-    subst (λ (x : DeviceState). ChoosesWhere (is_to_choose x.target.link) atn x.rooms word x.target d2.target) e m in
-    let rooms : d2.rooms ≡ d.rooms = r ∙ ap (λ (x : DeviceState). x.rooms) e in
-    turns-by (is_free d.target.link) word (bus_of d atn ack asked) (bus_of d2 (atn && bound) (ack && bound) asked) (not-true (is_free d.target.link) was w t)
-    (record { target = d2.target; chooses = c; becomes_it = hushed d d2 atn ack bound asked rooms f })
+pub turned : (d d' : DeviceState) (atn ack was bound : Bool) (asked : Option BusPhase) (word : ℕ) → was ≡ not (is_free d.target.link) → was ≡ true →
+    ChoosesWhere (is_to_choose d.target.link) atn d.rooms word d.target d'.target → d'.rooms ≡ d.rooms → bound ≡ not (is_free d'.target.link) →
+    Turns word (bus_of d atn ack asked) (bus_of d' (atn && bound) (ack && bound) asked)
+turned d d' atn ack was bound asked word w t m r f =
+    turns-by (is_free d.target.link) word (bus_of d atn ack asked) (bus_of d' (atn && bound) (ack && bound) asked) (not-true (is_free d.target.link) was w t)
+    (record { target = d'.target; chooses = m; becomes_it = hushed d d' atn ack bound asked r f })
+
+-- a byte that isn't taken leaves the device
+pub untaken-device : (d d' : DeviceState) (o : Option ℕ) (byte : ℕ) → link_takes d.target.link ≡ false → d' ≡ record { target = target_took (λ n. o) d.target byte; rooms = d.rooms } → d' ≡ d
+unfolding target_took
+untaken-device d d' o byte t m =
+    let e : took_where (λ n. o) (link_takes d.target.link) d.target byte ≡ d.target = ap (λ (x : Bool). took_where (λ n. o) x d.target byte) t in
+    m ∙ ap (λ (x : Target). record { target = x; rooms = d.rooms }) e
+
+pub untaken-is : (d d' : DeviceState) (atn ack : Bool) (asked : Option BusPhase) (o : Option ℕ) (byte : ℕ) → link_takes d.target.link ≡ false →
+    d' ≡ record { target = target_took (λ n. o) d.target byte; rooms = d.rooms } → bus_of d' atn ack asked ≡ taken_where (link_takes d.target.link) (bus_of d atn ack asked) byte
+untaken-is d d' atn ack asked o byte t m =
+    ap (λ (x : DeviceState). bus_of x atn ack asked) (untaken-device d d' o byte t m) ∙ ap (λ (x : Bool). taken_where x (bus_of d atn ack asked) byte) (sym t)
+
+-- a byte that is taken
+pub taken-is : (d d' : DeviceState) (atn ack bound : Bool) (asked : Option BusPhase) (o : Option ℕ) (byte : ℕ) → link_takes d.target.link ≡ true → o ≡ ticket_at (nexus_of d.target.link) →
+    d' ≡ record { target = target_took (λ n. o) d.target byte; rooms = d.rooms } → bound ≡ not (is_free d'.target.link) →
+    bus_of d' (atn && bound) (ack && bound) asked ≡ taken_where (link_takes d.target.link) (bus_of d atn ack asked) byte
+taken-is d d' atn ack bound asked o byte t e m f =
+    let b : BusState = bus_of d atn ack asked in
+    let r : d'.target ≡ target_took live_ticket d.target byte = ap (λ (x : DeviceState). x.target) m ∙ took-live o d.target byte e in
+    hushed d d' atn ack bound asked (ap (λ (x : DeviceState). x.rooms) m) f
+    ∙ ap (λ (x : Target). becomes b x) r
+    ∙ ap (λ (x : Bool). taken_where x b byte) (sym t)
 
 -- signals
 pub heard-is : (d d' : DeviceState) (atn ack bound : Bool) (asked : Option BusPhase) (shown : Option BusPhase) (message : Bool) → shown ≡ link_phase d.target.link → message ≡ is_message shown → message ≡ true →
@@ -227,16 +230,22 @@ released-is d d' atn ack bound asked t m f =
     ∙ ap (λ (x : Target). record (becomes b x) { ack = false }) (ap (λ (x : DeviceState). x.target) r)
     ∙ ap (λ (x : Bool). acked_where x b) (sym t)
 
-present-of : (r : RigUnit) → is_usual r ≡ true → r.absent ≡ true → ⊥
-present-of r e f = grind arith
+present-by : (rogue absent deep : Bool) → not rogue && (not absent && deep) ≡ true → absent ≡ false
+present-by rogue false deep e = refl
+present-by true true deep e = absurd cc
+present-by false true deep e = absurd cc
 
-there-absent : (u : LogicalUnit) (lun : ℕ) → is_usual u.rig ≡ true → IsThere (unit_at (slots u) lun) (λ v. v.rig.absent ≡ true) → ⊥
-there-absent u zero e m = present-of u.rig e (subst (λ (o : Option LogicalUnit). IsThere o (λ v. v.rig.absent ≡ true)) (unit_at-slots u) m)
-there-absent u (suc k) e m = subst (λ (o : Option LogicalUnit). IsThere o (λ v. v.rig.absent ≡ true)) (unit_at-other u k) m
+present-of : (r : RigUnit) → is_usual r ≡ true → r.absent ≡ false
+present-of r e = present-by r.rogue r.absent (nat_lt 0 r.depth) e
 
-pub absent-none : (d : DeviceState) → IsKept d.target → IsAbsent d → ⊥
-absent-none d k a =
-    there-absent k.alone.unit a.0 k.alone.usual (subst (λ (us : List (Option LogicalUnit)). IsThere (unit_at us a.0) (λ v. v.rig.absent ≡ true)) k.alone.units_are a.1)
+absent-by : (u : LogicalUnit) (l : Link) → u.rig.absent ≡ false → is_absent (record { units = slots u; link = l }) ≡ false
+unfolding is_absent answers
+absent-by u l e = rw e refl
+
+pub is-present : (d : DeviceState) → IsKept d.target → IsPresent d
+is-present d k =
+    let here : k.alone.unit.rig.absent ≡ false = present-of k.alone.unit.rig k.alone.usual in
+    ap (λ (us : List (Option LogicalUnit)). is_absent (record { units = us; link = d.target.link })) k.alone.units_are ∙ absent-by k.alone.unit d.target.link here
 
 -- a selection
 not-false : (free bound : Bool) → bound ≡ not free → bound ≡ false → free ≡ true

@@ -10,8 +10,8 @@ use Rattle.target_law.specs.Bytes.{Connection}
 use Rattle.target_law.specs.Target.{LogicalUnit, Working, Target, session, unit_after}
 use Rattle.target_law.specs.Calls.{is_free, target_acted}
 use Rattle.target_law.specs.Lawful.{NamesOf}
-use Rattle.one_target.specs.Bus.{BusState, if_fits, with_room, becomes, begins, is_to_choose, Settles, Acts, Chooses, ChoosesWhere, GoesOn, Turns}
-use Rattle.scsi_target.specs.Devices.{lie_within}
+use Rattle.one_target.specs.Bus.{BusState, if_fits, with_room, becomes, is_to_choose, Settles, Acts, Chooses, ChoosesWhere, GoesOn, Turns}
+use Rattle.target_law.specs.Devices.{lie_within}
 use Rattle.one_target.proofs.Slots.{slots, unit_at-slots, with_unit-slots}
 
 -- a task of LUN 0 that a selection connected
@@ -61,12 +61,11 @@ acts_where : (atn : Bool) (rooms : List ℕ) (t t' : Target) (c : Connection) �
 acts_where true rooms t t' c e m = absurd cc
 acts_where false rooms t t' c e m = m
 
-pub turns-go : (b mid : BusState) (u : LogicalUnit) (k : Task) (n : ℕ) (s : Session) → is_free b.target.link ≡ false → b.atn ≡ false → begins b.target ≡ working u k Choosing → Goes u k n s b.rooms →
+pub turns-go : (b mid : BusState) (u : LogicalUnit) (k : Task) (n : ℕ) (s : Session) → is_free b.target.link ≡ false → b.atn ≡ false → b.target ≡ working u k Choosing → Goes u k n s b.rooms →
     Turns 0 b mid → mid ≡ record b { target = working (unit_after u s) s.task s.shows }
 turns-go b mid u k n s bound off begun g t =
     let o : GoesOn 0 b mid = rw bound at t in
-    let c : ChoosesWhere (is_to_choose (begins b.target).link) b.atn b.rooms 0 (begins b.target) o.target = o.chooses in
-    let d : ChoosesWhere true b.atn b.rooms 0 (working u k Choosing) o.target = rw begun at c in
+    let d : ChoosesWhere true b.atn b.rooms 0 (working u k Choosing) o.target = subst (λ (x : Target). ChoosesWhere (is_to_choose x.link) b.atn b.rooms 0 x o.target) begun o.chooses in
     let a : Acts b.rooms 0 (working u k Choosing) (connected k Choosing) o.target = acts_where b.atn b.rooms (working u k Choosing) o.target (connected k Choosing) off d in
     let e : o.target ≡ working (unit_after u s) s.task s.shows = acts-is u k n s b.rooms o.target g a in
     o.becomes_it ∙ ap (λ (x : Target). becomes b x) e

@@ -41,14 +41,15 @@ pub record OneEnd (k : Tally) : Type 0 where
   pub drops : k.drops ≡ 0
   pub senses : k.senses ≡ 0
   pub early : k.early ≡ 0
+  pub clears : k.clears ≡ 0
 
 tally-read : OneEnd (tally 0 read_log)
 unfolding tally
-tally-read = record { refusals = refl; ends = refl; drops = refl; senses = refl; early = refl }
+tally-read = record { refusals = refl; ends = refl; drops = refl; senses = refl; early = refl; clears = refl }
 
 tally-refused : OneEnd (tally 0 refused_log)
 unfolding tally
-tally-refused = record { refusals = refl; ends = refl; drops = refl; senses = refl; early = refl }
+tally-refused = record { refusals = refl; ends = refl; drops = refl; senses = refl; early = refl; clears = refl }
 
 -- the unit performs the request as it performs a READ(10)
 abbrev requests_of : ℕ → ℕ → PlainRequest
@@ -74,7 +75,7 @@ filled-none = refl
 
 fits-with : (lba : ℕ) (log : List LogEntry) (a : Answered) (status : ℕ) (bytes : List ℕ) → OneEnd (tally 0 log) → (run_log (requests_of lba) one_plain log).answers 0 ≡ Some a → status ≡ status_code a.status →
     (report_with status bytes).residual ≡ 512 - if_good a.status (length a.bytes) → bytes ≡ filled a.bytes (length a.bytes) submitted →
-    Fits the_setting (request_of lba) (view_of (requests_of lba) one_plain log 0) the_course (report_with status bytes)
+    Fits the_setting 0 (request_of lba) (view_of (requests_of lba) one_plain log 0) (the_course log) (report_with status bytes)
 fits-with lba log a status bytes k answered is left held =
     let end : ByEnd (request_of lba) (view_of (requests_of lba) one_plain log 0) (report_with status bytes) = record {
       one_end = k.ends;
@@ -82,10 +83,10 @@ fits-with lba log a status bytes k answered is left held =
       tries = ap (λ (n : ℕ). n + 1) (sym k.refusals);
       given = (a, answered, is, left ∙ ap (λ (n : ℕ). n - if_good a.status (length a.bytes)) (sym length-submitted), held);
     } in
-    λ quiet. record { by = inl end; few_tries = lit≤ tt; all_within = refl; all_caused = refl }
+    λ quiet. record { ticket = refl; of_unit = refl; by = inl end; few_tries = lit≤ tt; all_within = refl; all_caused = k.clears }
 
 sense-with : (lba : ℕ) (log : List LogEntry) (status : ℕ) (bytes : List ℕ) → OneEnd (tally 0 log) → (run_log (requests_of lba) one_plain log).senses 0 ≡ None →
-    SenseFits the_setting (view_of (requests_of lba) one_plain log 0) the_course (report_with status bytes)
+    SenseFits the_setting (view_of (requests_of lba) one_plain log 0) (the_course log) (report_with status bytes)
 sense-with lba log status bytes k none = λ quiet. record {
   at_most_one = omega arith;
   none_early = k.early;
@@ -114,9 +115,9 @@ whole lba status bytes log q moved bus chip o f g ran after is k st left held =
     let e : Ended (after_read lba) log chip.bus = g.bus_is in
     let log_is : e.unit.log ≡ log = e.log_is in
     let alone : e.unit.plain ≡ (run_log (requests_of lba) one_plain log).unit = e.plain_is ∙ sym after ∙ sym (ap (λ (r : Ran). r.unit) ran) in
-    let fits : Fits the_setting (request_of lba) (view_of (requests_of lba) one_plain log 0) the_course (report_with status bytes) =
+    let fits : Fits the_setting 0 (request_of lba) (view_of (requests_of lba) one_plain log 0) (the_course log) (report_with status bytes) =
     fits-with lba log q.answer status bytes k (answers-of (requests_of lba) one_plain log q ran) st left held in
-    let sense : SenseFits the_setting (view_of (requests_of lba) one_plain log 0) the_course (report_with status bytes) =
+    let sense : SenseFits the_setting (view_of (requests_of lba) one_plain log 0) (the_course log) (report_with status bytes) =
     sense-with lba log status bytes k (senses-of (requests_of lba) one_plain log q ran) in
     record {
       bus = bus;
@@ -127,12 +128,11 @@ whole lba status bytes log q moved bus chip o f g ran after is k st left held =
       unit = e.unit;
       unit_is = e.unit_is;
       alone = subst (λ (l : List LogEntry). e.unit.plain ≡ (run_log (requests_of lba) one_plain l).unit) (sym log_is) alone;
-      ticket = refl;
-      of_unit = refl;
-      fits = subst (λ (l : List LogEntry). Fits the_setting (request_of lba) (view_of (requests_of lba) one_plain l 0) the_course (report_in chip.memory)) (sym log_is)
-          (subst (λ (r : Report). Fits the_setting (request_of lba) (view_of (requests_of lba) one_plain log 0) the_course r) (sym is) fits);
-      sense = subst (λ (l : List LogEntry). SenseFits the_setting (view_of (requests_of lba) one_plain l 0) the_course (report_in chip.memory)) (sym log_is)
-          (subst (λ (r : Report). SenseFits the_setting (view_of (requests_of lba) one_plain log 0) the_course r) (sym is) sense);
+      report_is = refl;
+      fits = subst (λ (l : List LogEntry). Fits the_setting 0 (request_of lba) (view_of (requests_of lba) one_plain l 0) (the_course l) (report_in chip.memory)) (sym log_is)
+          (subst (λ (r : Report). Fits the_setting 0 (request_of lba) (view_of (requests_of lba) one_plain log 0) (the_course log) r) (sym is) fits);
+      sense = subst (λ (l : List LogEntry). SenseFits the_setting (view_of (requests_of lba) one_plain l 0) (the_course l) (report_in chip.memory)) (sym log_is)
+          (subst (λ (r : Report). SenseFits the_setting (view_of (requests_of lba) one_plain log 0) (the_course log) r) (sym is) sense);
     }
 
 -- a block of the unit

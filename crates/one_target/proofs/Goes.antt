@@ -17,19 +17,20 @@ use Rattle.target_law.specs.declared.showing.Showing.TheVariants.{Choosing, Send
 use Rattle.target_law.specs.declared.showing.Verdict.TheVariants.{Answered as HasAnswered}
 use Rattle.target_law.specs.Session.{Task, Session}
 use Rattle.target_law.specs.Target.{LogicalUnit, Free, Commanded, Target, unit_opened, target_opened, unit_after}
+use Rattle.target_law.specs.Beginning.{target_took}
 use Rattle.target_law.specs.Calls.{link_phase}
-use Rattle.straight_run.specs.Opening.{cdb}
+use Rattle.bench_words.specs.Bytes.{IsBytes}
 use Rattle.straight_run.specs.Reading.{Answers, asks, ins, ending, read_calls, status_calls}
-use Rattle.one_target.specs.Bus.{BusState, moves, Turns}
+use Rattle.one_target.specs.Bus.{BusState, live_ticket, moves, Turns}
 use Rattle.one_target.specs.Opening.{one_unit}
 use Rattle.one_target.specs.Reading.{Ended, read_log, refused_log}
 use Rattle.one_target.proofs.Slots.{slots, unit_at-slots, opened-slots}
 use Rattle.one_target.proofs.Asking.{clears_ack, asks_for, asks_shown}
 use Rattle.one_target.proofs.Choosing.{working, turns-go}
 use Rattle.one_target.proofs.Carrying.{bus, data_in}
-use Rattle.one_target.proofs.Chain.{telling, tells, begins_with}
+use Rattle.one_target.proofs.Chain.{cdb_front, telling, tells, begins_with}
 use Rattle.one_target.proofs.OneRead.{read-cdb}
-use Rattle.one_target.proofs.Sessions.{Calm, unit_with, task_of, begins-slots, done, sending, goes_reading, moved, read_told, goes_told, refused_told, goes_refused, ended_with, read_closed, refused_closed}
+use Rattle.one_target.proofs.Sessions.{Calm, unit_with, task_of, takes_last, done, sending, goes_reading, moved, read_told, goes_told, refused_told, goes_refused, ended_with, read_closed, refused_closed}
 
 -- a phase that a Go leads to
 chosen : (P : BusState → Type 0) (b : BusState) (u : LogicalUnit) (k : Task) (n : ℕ) (s : Session) (shown : BusPhase) (es : List Event) →
@@ -40,9 +41,12 @@ chosen P b u k n s shown es f e a = asks_for P (Some shown) b es (λ mid t.
     (ap (λ (x : BusState). link_phase x.target.link) m ∙ e, rw m a))
 
 module _ (P : BusState → Type 0) (rooms : List ℕ) (roomy : 8 ≤ get_or rooms 0 0) (r : RigUnit) (p : Plain) (lba : ℕ) (calm : Calm r) (fits : lba < 2 ^ 32) where
-  -- the whole descriptor block has come
+  -- the whole descriptor block has come, and its task has begun
   abbrev commanded : BusState
-  commanded = bus rooms (record { units = slots (unit_with r p []); link = Commanded (record { lun = 0; tag = 0 }) (cdb lba) }) (Some Command)
+  commanded = bus rooms (working (unit_with r p []) (task_of r lba) Choosing) (Some Command)
+
+  begun : target_took live_ticket (record { units = slots (unit_with r p []); link = Commanded (record { lun = 0; tag = 0 }) (cdb_front lba) }) 0 ≡ working (unit_with r p []) (task_of r lba) Choosing
+  begun = takes_last r p lba (cdb_front lba) 0 refl refl (read-cdb lba fits) calm.deep
 
   -- the status without data, and the end
   after_refusal : P (bus rooms (record { units = slots (unit_with r (done r p lba calm).unit refused_log); link = Free }) (Some MsgIn)) → (wants_now p (Read lba 1 false)).bytes ≡ 0 →
@@ -54,10 +58,10 @@ module _ (P : BusState → Type 0) (rooms : List ℕ) (roomy : 8 ≤ get_or room
       let a1 : Answers moves (telling (status_code st)) P told =
       tells P rooms roomy (unit_with r p []) s.task (HasAnswered st) (ended_with r p lba calm s refused_log) (refused_closed r p lba calm) (lit≤ tt) q in
       let a2 : Answers moves (ending (status_code st)) P told =
-      clears_ack P told (Phase 0 (Some StatusPhase) ∷ telling (status_code st)) (asks_shown P StatusPhase told (telling (status_code st)) (record { bound = refl; begun = refl; phase = refl }) a1) in
+      clears_ack P told (Phase 0 (Some StatusPhase) ∷ telling (status_code st)) (asks_shown P StatusPhase told (telling (status_code st)) (record { bound = refl; phase = refl }) a1) in
       clears_ack P commanded (Phase 0 (Some StatusPhase) ∷ ending (status_code st))
       (chosen P commanded (unit_with r p []) (task_of r lba) 0 s StatusPhase (ending (status_code st))
-      (λ mid t. turns-go commanded mid (unit_with r p []) (task_of r lba) 0 s refl refl (begins-slots r p lba (cdb lba) refl (read-cdb lba fits)) (goes_refused r p lba calm rooms roomy w) t) refl a2)
+      (λ mid t. turns-go commanded mid (unit_with r p []) (task_of r lba) 0 s refl refl refl (goes_refused r p lba calm rooms roomy w) t) refl a2)
 
   -- the status after the data, and the end
   after_data : (n high : ℕ) → n ≡ length (done r p lba calm).answer.bytes → P (bus rooms (record { units = slots (unit_with r (done r p lba calm).unit read_log); link = Free }) (Some MsgIn)) →
@@ -74,41 +78,41 @@ module _ (P : BusState → Type 0) (rooms : List ℕ) (roomy : 8 ≤ get_or room
       (chosen P b u (moved r p lba calm n high) 0 s StatusPhase (telling (status_code st))
       (λ mid t. turns-go b mid u (moved r p lba calm n high) 0 s refl refl refl (goes_told r p lba calm rooms n high roomy e) t) refl a1)
 
-  bytes_go : (bytes : List ℕ) → (done r p lba calm).answer.bytes ≡ bytes → length bytes ≡ 512 → P (bus rooms (record { units = slots (unit_with r (done r p lba calm).unit read_log); link = Free }) (Some MsgIn)) →
+  bytes_go : (bytes : List ℕ) → IsBytes bytes → (done r p lba calm).answer.bytes ≡ bytes → length bytes ≡ 512 → P (bus rooms (record { units = slots (unit_with r (done r p lba calm).unit read_log); link = Free }) (Some MsgIn)) →
       Answers moves (ins bytes (ending (status_code (done r p lba calm).answer.status))) P (bus rooms (working (unit_with r (done r p lba calm).unit (Look 0 ∷ [])) (sending r p lba calm).task (Sending 512)) (Some DataIn))
-  bytes_go [] e l q = absurd (omega arith)
-  bytes_go (b ∷ bs) e l q =
+  bytes_go [] small e l q = absurd (omega arith)
+  bytes_go (b ∷ bs) small e l q =
       let u : LogicalUnit = unit_with r (done r p lba calm).unit (Look 0 ∷ []) in
       let es : List Event = ending (status_code (done r p lba calm).answer.status) in
       let a : Answers moves (ins (b ∷ bs) es) P (bus rooms (working u (sending r p lba calm).task (Sending (length (b ∷ bs)))) (Some DataIn)) =
-      data_in P rooms u (sending r p lba calm).task (done r p lba calm).answer refl bs b [] 0 0 es e refl (λ n high f. after_data n high f q) in
+      data_in P rooms u (sending r p lba calm).task (done r p lba calm).answer refl bs b [] 0 0 es small e refl (λ n high f. after_data n high f q) in
       rw l at a
 
   -- the data phase
-  after_command : (bytes : List ℕ) → (done r p lba calm).answer.bytes ≡ bytes → length bytes ≡ 512 → (wants_now p (Read lba 1 false)).bytes ≡ 512 →
+  after_command : (bytes : List ℕ) → IsBytes bytes → (done r p lba calm).answer.bytes ≡ bytes → length bytes ≡ 512 → (wants_now p (Read lba 1 false)).bytes ≡ 512 →
       P (bus rooms (record { units = slots (unit_with r (done r p lba calm).unit read_log); link = Free }) (Some MsgIn)) →
       Answers moves (asks DataIn (asks DataIn (ins bytes (ending (status_code (done r p lba calm).answer.status))))) P commanded
-  after_command bytes e l w q =
+  after_command bytes small e l w q =
       let es : List Event = ins bytes (ending (status_code (done r p lba calm).answer.status)) in
       let s : Session = sending r p lba calm in
       let b : BusState = bus rooms (working (unit_with r (done r p lba calm).unit (Look 0 ∷ [])) s.task (Sending 512)) (Some DataIn) in
-      let a1 : Answers moves es P b = bytes_go bytes e l q in
-      let a2 : Answers moves (asks DataIn es) P b = clears_ack P b (Phase 0 (Some DataIn) ∷ es) (asks_shown P DataIn b es (record { bound = refl; begun = refl; phase = refl }) a1) in
+      let a1 : Answers moves es P b = bytes_go bytes small e l q in
+      let a2 : Answers moves (asks DataIn es) P b = clears_ack P b (Phase 0 (Some DataIn) ∷ es) (asks_shown P DataIn b es (record { bound = refl; phase = refl }) a1) in
       clears_ack P commanded (Phase 0 (Some DataIn) ∷ asks DataIn es)
       (chosen P commanded (unit_with r p []) (task_of r lba) 512 s DataIn (asks DataIn es)
-      (λ mid t. turns-go commanded mid (unit_with r p []) (task_of r lba) 512 s refl refl (begins-slots r p lba (cdb lba) refl (read-cdb lba fits)) (goes_reading r p lba calm rooms roomy w) t) refl a2)
+      (λ mid t. turns-go commanded mid (unit_with r p []) (task_of r lba) 512 s refl refl refl (goes_reading r p lba calm rooms roomy w) t) refl a2)
 
-  pub read_answers : (asked : Option BusPhase) (bytes : List ℕ) → r.rogue ≡ false → (done r p lba calm).answer.bytes ≡ bytes → length bytes ≡ 512 → (wants_now p (Read lba 1 false)).bytes ≡ 512 →
+  pub read_answers : (asked : Option BusPhase) (bytes : List ℕ) → IsBytes bytes → r.rogue ≡ false → (done r p lba calm).answer.bytes ≡ bytes → length bytes ≡ 512 → (wants_now p (Read lba 1 false)).bytes ≡ 512 →
       P (bus rooms (record { units = slots (unit_with r (done r p lba calm).unit read_log); link = Free }) (Some MsgIn)) →
       Answers moves (read_calls lba bytes (status_code (done r p lba calm).answer.status)) P (bus rooms (record { units = slots (unit_with r p []); link = Free }) asked)
-  read_answers asked bytes quiet e l w q =
-      begins_with P rooms roomy (unit_with r p []) lba asked (asks DataIn (asks DataIn (ins bytes (ending (status_code (done r p lba calm).answer.status))))) quiet (lit≤ tt) (after_command bytes e l w q)
+  read_answers asked bytes small quiet e l w q =
+      begins_with P rooms roomy (unit_with r p []) (task_of r lba) lba asked (asks DataIn (asks DataIn (ins bytes (ending (status_code (done r p lba calm).answer.status))))) quiet (lit≤ tt) begun (after_command bytes small e l w q)
 
   pub refusal_answers : (asked : Option BusPhase) → r.rogue ≡ false → (wants_now p (Read lba 1 false)).bytes ≡ 0 →
       P (bus rooms (record { units = slots (unit_with r (done r p lba calm).unit refused_log); link = Free }) (Some MsgIn)) →
       Answers moves (status_calls lba (status_code (done r p lba calm).answer.status)) P (bus rooms (record { units = slots (unit_with r p []); link = Free }) asked)
   refusal_answers asked quiet w q =
-      begins_with P rooms roomy (unit_with r p []) lba asked (asks StatusPhase (ending (status_code (done r p lba calm).answer.status))) quiet (lit≤ tt) (after_refusal q w)
+      begins_with P rooms roomy (unit_with r p []) (task_of r lba) lba asked (asks StatusPhase (ending (status_code (done r p lba calm).answer.status))) quiet (lit≤ tt) begun (after_refusal q w)
 
 -- the bus is free, and the unit has ended
 pub ended-slots : (rooms : List ℕ) (r : RigUnit) (p : Plain) (log : List LogEntry) (asked : Option BusPhase) → Ended p log (bus rooms (record { units = slots (unit_with r p log); link = Free }) asked)
@@ -137,7 +141,7 @@ one-quiet = refl
 
 pub one-calm : Calm one_unit
 unfolding one_unit
-one-calm = record { stays = refl; accepts = refl }
+one-calm = record { stays = refl; accepts = refl; deep = refl }
 
 pub length-opened : (n : ℕ) (pattern : Pattern) → length (opened n pattern).disk ≡ 512 * n
 length-opened n pattern = length-filled_disk pattern (512 * n)

@@ -1,4 +1,5 @@
 pub mod Slots
+pub mod BlockBytes
 pub mod Asking
 pub mod Choosing
 pub mod Carrying

@@ -1,10 +1,11 @@
 -- The bus as it is opened.
-use Rattle.std.proofs.Common.{◌≡◌, ◌+◌, ◌≤◌, true, false, [], ◌∷◌, length, get_or, refl, ap, sym, ◌∙◌, subst, arith, Option, Some, None, lit≤}
+use Rattle.std.proofs.Common.{false, ◌≡◌, ◌≤◌, true, [], ◌∷◌, replicate, get_or, refl, ap, sym, ◌∙◌, subst, Option, Some, None, lit≤}
 use Rattle.rig_types.specs.declared.rig.Pattern.TheVariants.{Count}
 use Rattle.rig_types.specs.declared.rig.Unit.{Unit as RigUnit}
 use Rattle.target_law.specs.Target.{LogicalUnit, Free, Target, unit_at, unit_opened, target_opened}
 use Rattle.target_law.specs.Lawful.{IsThere}
-use Rattle.scsi_target.specs.Devices.{DeviceState, device_opened, lie_within, HasUnit}
+use Rattle.target_law.specs.Devices.{DeviceState, device_opened, device_reserved, lie_within}
+use Rattle.scsi_target.specs.Devices.{HasUnit}
 use Rattle.one_target.specs.Bus.{bus_of}
 use Rattle.one_target.specs.Holding.{is_usual, IsHeld}
 use Rattle.one_target.specs.Opening.{one_unit, IsOpened}
@@ -29,11 +30,14 @@ pub record Roomy (r : RigUnit) (d : DeviceState) : Type 0 where
   pub target_is : d.target ≡ target_opened (r ∷ [])
   pub room : 8 ≤ get_or d.rooms 0 0
 
-pub roomy : (r : RigUnit) → r.lun ≡ 0 → (d d' : DeviceState) → d ≡ device_opened (r ∷ []) → d'.target ≡ d.target → IsThere (unit_at d.target.units 0) (λ u. length u.log + 8 ≤ get_or d'.rooms 0 0) → Roomy r d'
-roomy r z d d' o t m =
-    let there : unit_at d.target.units 0 ≡ Some (unit_opened r) = opened-unit r z d.target (ap (λ (x : DeviceState). x.target) o) in
-    let room : length (unit_opened r).log + 8 ≤ get_or d'.rooms 0 0 = subst (λ (u : Option LogicalUnit). IsThere u (λ v. length v.log + 8 ≤ get_or d'.rooms 0 0)) there m in
-    record { target_is = t ∙ ap (λ (x : DeviceState). x.target) o; room = omega arith }
+reserved-is : (r : RigUnit) → r.lun ≡ 0 → device_reserved (device_opened (r ∷ [])) 0 8 ≡ record { target = target_opened (r ∷ []); rooms = 8 ∷ replicate 7 0 }
+unfolding device_reserved
+reserved-is r z = rw (opened-unit r z (target_opened (r ∷ [])) refl) refl
+
+pub roomy : (r : RigUnit) → r.lun ≡ 0 → (d d' : DeviceState) → d ≡ device_opened (r ∷ []) → d' ≡ device_reserved d 0 8 → Roomy r d'
+roomy r z d d' o e =
+    let is : d' ≡ record { target = target_opened (r ∷ []); rooms = 8 ∷ replicate 7 0 } = e ∙ ap (λ (x : DeviceState). device_reserved x 0 8) o ∙ reserved-is r z in
+    record { target_is = ap (λ (x : DeviceState). x.target) is; room = subst (λ (x : DeviceState). 8 ≤ get_or x.rooms 0 0) (sym is) (lit≤ tt) }
 
 pub opened-held : (r : RigUnit) → r.lun ≡ 0 → is_usual r ≡ true → (d : DeviceState) → Roomy r d → IsHeld (bus_of d false false None)
 opened-held r z e d h =

@@ -1,5 +1,5 @@
 -- What the one task does from its command to its end.
-use Rattle.std.proofs.Common.{◌≡◌, ℕ, ◌+◌, ◌-◌, ◌%◌, ◌≤◌, ◌==◌, ◌&&◌, Bool, true, false, not, nat_lt, if◌then◌else◌, List, [], ◌∷◌, length, get_or, refl, ap, ◌∙◌, arith, Some, lit≤}
+use Rattle.std.proofs.Common.{◌≡◌, ℕ, ◌+◌, ◌-◌, ◌%◌, ◌≤◌, ◌==◌, ◌&&◌, Bool, true, false, not, nat_lt, if◌then◌else◌, List, [], ◌∷◌, ◌++◌, length, get_or, refl, ap, ◌∙◌, arith, Some, lit≤}
 use Rattle.std.proofs.lemmas.Bool.Decides.{nat_tests}
 use Rattle.rig_types.specs.declared.rig.Unit.{Unit as RigUnit}
 use Rattle.cdb_codec.specs.declared.commands.Cdb.TheVariants.{Read}
@@ -18,15 +18,17 @@ use Rattle.target_law.specs.Choice.{can_go, can_refuse, can_spend, go_bytes}
 use Rattle.target_law.specs.Target.{LogicalUnit, Commanded, unit_at, session, unit_after}
 use Rattle.target_law.specs.Calls.{is_whole, target_begun}
 use Rattle.target_law.specs.Lawful.{NamesOf, refused_so_far}
-use Rattle.one_target.specs.Bus.{begins}
+use Rattle.target_law.specs.Beginning.{begins, target_took}
+use Rattle.one_target.specs.Bus.{live_ticket}
 use Rattle.one_target.proofs.Slots.{slots, slots-fit}
 use Rattle.one_target.proofs.Choosing.{connected, working, only_go, Goes}
 use Rattle.one_target.proofs.Carrying.{at_place}
 
--- a unit that neither leaves the bus nor refuses
+-- a unit that neither leaves the bus nor refuses, with a place for a task
 pub record Calm (r : RigUnit) : Type 0 where
   pub stays : r.disconnects ≡ 0
   pub accepts : r.refusals ≡ 0
+  pub deep : nat_lt 0 r.depth ≡ true
 
 abbrev pub unit_with : RigUnit → Plain → List LogEntry → LogicalUnit
 unit_with r p log = record { rig = r; plain = p; log = log; tasks = [] }
@@ -35,10 +37,16 @@ unit_with r p log = record { rig = r; plain = p; log = log; tasks = [] }
 abbrev pub task_of : RigUnit → ℕ → Task
 task_of r lba = began 0 0 (Read lba 1 false) r.disconnects false
 
-pub begins-slots : (r : RigUnit) (p : Plain) (lba : ℕ) (taken : List ℕ) → is_whole taken ≡ true → cdb_of taken ≡ Read lba 1 false →
-    begins (record { units = slots (unit_with r p []); link = Commanded (record { lun = 0; tag = 0 }) taken }) ≡ working (unit_with r p []) (task_of r lba) Choosing
+-- with the last byte of its descriptor block it begins, where the unit has a place
+begins-slots : (r : RigUnit) (p : Plain) (lba : ℕ) (taken : List ℕ) → is_whole taken ≡ true → cdb_of taken ≡ Read lba 1 false → nat_lt 0 r.depth ≡ true →
+    begins live_ticket (record { units = slots (unit_with r p []); link = Commanded (record { lun = 0; tag = 0 }) taken }) ≡ working (unit_with r p []) (task_of r lba) Choosing
 unfolding target_begun unit_at
-begins-slots r p lba taken w e = rw (w, e) refl
+begins-slots r p lba taken w e deep = rw (w, e, deep) refl
+
+pub takes_last : (r : RigUnit) (p : Plain) (lba : ℕ) (front : List ℕ) (byte : ℕ) → is_whole front ≡ false → is_whole (front ++ byte ∷ []) ≡ true → cdb_of (front ++ byte ∷ []) ≡ Read lba 1 false → nat_lt 0 r.depth ≡ true →
+    target_took live_ticket (record { units = slots (unit_with r p []); link = Commanded (record { lun = 0; tag = 0 }) front }) byte ≡ working (unit_with r p []) (task_of r lba) Choosing
+unfolding target_took
+takes_last r p lba front byte f w e deep = rw f (begins-slots r p lba (front ++ byte ∷ []) w e deep)
 
 -- the one move that is offered
 below_none : (x n : ℕ) → n ≡ 0 → nat_lt x n ≡ false

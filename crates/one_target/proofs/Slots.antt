@@ -3,7 +3,7 @@ use Rattle.std.proofs.Common.{◌≡◌, ℕ, zero, suc, ◌≤◌, true, nat_le
 use Rattle.std.proofs.lemmas.Bool.Decides.{nat_tests}
 use Rattle.rig_types.specs.declared.rig.Unit.{Unit as RigUnit}
 use Rattle.target_law.specs.Target.{LogicalUnit, Free, unit_at, with_unit, unit_opened, target_opened}
-use Rattle.scsi_target.specs.Devices.{lie_within}
+use Rattle.target_law.specs.Devices.{lie_within}
 
 -- the eight places of its units
 abbrev pub slots : LogicalUnit → List (Option LogicalUnit)
@@ -24,7 +24,7 @@ opened-slots r e = rw e refl
 -- there is room for a log that is short
 none_fits : (us : List (Option LogicalUnit)) (rooms : List ℕ) → ((rs : List ℕ) → lie_within us rs ≡ true) → lie_within (None ∷ us) rooms ≡ true
 unfolding lie_within
-none_fits us [] f = refl
+none_fits us [] f = f []
 none_fits us (r ∷ rs) f = f rs
 
 nones : ℕ → List (Option LogicalUnit)

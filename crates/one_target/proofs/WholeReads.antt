@@ -12,6 +12,7 @@ use Rattle.one_target.specs.Bus.{BusState, moves}
 use Rattle.one_target.specs.Opening.{one_unit, one_plain, IsOpened}
 use Rattle.one_target.specs.Reading.{Ended, after_read, block_at, read_log, refused_log, Reads, Checks}
 use Rattle.one_target.proofs.Slots.{slots}
+use Rattle.one_target.proofs.BlockBytes.{bytes-filled_disk, bytes-blocks_at}
 use Rattle.one_target.proofs.Carrying.{bus}
 use Rattle.one_target.proofs.OneRead.{performed, wants-there, wants-past, holds-there, holds-past, length-block}
 use Rattle.one_target.proofs.Sessions.{unit_with}
@@ -48,7 +49,7 @@ reads lba h b o =
     let bytes : done.answer.bytes ≡ block_at lba = ap (λ (q : Performed). q.answer.bytes) is in
     let status : done.answer.status ≡ Good = ap (λ (q : Performed). q.answer.status) is in
     let a : Answers moves (read_calls lba (block_at lba) (status_code done.answer.status)) P (opened_bus b) =
-    read_answers P b.rooms o.room one_unit one_plain lba one-calm (omega arith) b.asked (block_at lba) one-quiet bytes (length-block_at lba h) (wants-there one_plain lba refl there) (ended-slots b.rooms one_unit (after_read lba) read_log _) in
+    read_answers P b.rooms o.room one_unit one_plain lba one-calm (omega arith) b.asked (block_at lba) (bytes-blocks_at one_plain.disk lba 1 (bytes-filled_disk one_unit.pattern (512 * one_unit.blocks))) one-quiet bytes (length-block_at lba h) (wants-there one_plain lba refl there) (ended-slots b.rooms one_unit (after_read lba) read_log _) in
     let c : Answers moves (read_calls lba (block_at lba) (status_code Good)) P (opened_bus b) =
     subst (λ (st : Status). Answers moves (read_calls lba (block_at lba) (status_code st)) P (opened_bus b)) status a in
     subst (λ (x : BusState). Answers moves (read_calls lba (block_at lba) (status_code Good)) P x) (sym (is-opened_bus b o)) c

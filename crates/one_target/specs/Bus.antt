@@ -1,6 +1,6 @@
 -- The bus of one target, whose units keep the rules. The bus keeps ATN and ACK and the phase that was asked for last, and knows the room of
 -- each log. Sources: SCSI-2 6.1 phases, 6.2.1 attention condition; own are the live ticket, and what a target does whose log is full.
-use Rattle.std.specs.Prelude.{◌≡◌, ℕ, ◌==◌, ◌&&◌, not, if◌then◌else◌, is_none, Bool, true, false, List, length, Option, Some, None, ◌⊎◌}
+use Rattle.std.specs.Prelude.{◌≡◌, ℕ, ◌%◌, ◌==◌, ◌&&◌, not, if◌then◌else◌, is_none, Bool, true, false, List, Option, Some, None, option_map, ◌⊎◌}
 use Rattle.scsi_words.specs.declared.phases.kinds.Phase.{Phase as BusPhase}
 use Rattle.scsi_words.specs.declared.phases.kinds.Phase.TheVariants as phase
 use Rattle.chip_step.specs.Event.{Event, Phase, Shown, ByteIn, ByteOut, Select, Reselect, SetAtn, ClearAck, Leave}
@@ -11,9 +11,10 @@ use Rattle.target_law.specs.declared.moves.Move.{Move}
 use Rattle.target_law.specs.declared.nexus.Nexus.{Nexus}
 use Rattle.target_law.specs.Bytes.{Connection}
 use Rattle.target_law.specs.Target.{LogicalUnit, Link, Working, Target, unit_at, linked, leaves}
-use Rattle.target_law.specs.Calls.{is_free, link_phase, nexus_of, whole_by, target_selected, target_acted, asked_by, link_byte, sent_if, link_takes, took_if, target_messaged, target_acked, target_begun}
+use Rattle.target_law.specs.Beginning.{target_took}
+use Rattle.target_law.specs.Calls.{is_free, link_phase, target_selected, target_acted, asked_by, link_byte, sent_if, link_takes, target_messaged, target_acked}
 use Rattle.target_law.specs.Lawful.{NamesOf}
-use Rattle.scsi_target.specs.Devices.{DeviceState, lie_within}
+use Rattle.target_law.specs.Devices.{DeviceState, lie_within}
 
 -- a bus with its one target: how many entries each log may have, by LUN; ATN and ACK; and the phase that was asked for last
 pub record BusState : Type 0 where
@@ -39,26 +40,13 @@ become false b t = record b { target = t }
 abbrev pub becomes : BusState → Target → BusState
 becomes b t = become (is_free t.link) b t
 
--- no task of the unit waits
-abbrev pub is_idle : Option LogicalUnit → Bool
-is_idle (Some u) = length u.tasks == 0
-is_idle None = false
+-- the one ticket: 0 under tag 0 of LUN 0
+abbrev pub live_ticket : Nexus → Option ℕ
+live_ticket n = if n.lun == 0 && n.tag == 0 then Some 0 else None
 
--- the one ticket: 0 under tag 0 of LUN 0, as long as its unit is idle
-abbrev pub live_ticket : Target → Nexus → Option ℕ
-live_ticket t n = if n.lun == 0 && (n.tag == 0 && is_idle (unit_at t.units 0)) then Some 0 else None
-
--- where a command descriptor block is whole, its task is begun
-abbrev pub begun_of : Option Nexus → Target → Target
-begun_of (Some n) t = target_begun t (live_ticket t n)
-begun_of None t = t
-
-abbrev pub begun_where : Bool → Target → Target
-begun_where true t = begun_of (nexus_of t.link) t
-begun_where false t = t
-
-abbrev pub begins : Target → Target
-begins t = begun_where (whole_by t.link) t
+abbrev pub ticket_at : Option Nexus → Option ℕ
+ticket_at None = None
+ticket_at (Some n) = live_ticket n
 
 -- connected, and no phase is shown
 abbrev pub is_to_choose : Link → Bool
@@ -104,7 +92,7 @@ ChoosesWhere false atn rooms word t t' = t' ≡ t
 -- the bus after the target's turn: a free bus stays
 pub record GoesOn (word : ℕ) (b b' : BusState) : Type 0 where
   pub target : Target
-  pub chooses : ChoosesWhere (is_to_choose (begins b.target).link) b.atn b.rooms word (begins b.target) target
+  pub chooses : ChoosesWhere (is_to_choose b.target.link) b.atn b.rooms word b.target target
   pub becomes_it : b' ≡ becomes b target
 
 abbrev pub TurnsWhere : (free : Bool) → (word : ℕ) → (b b' : BusState) → Type 0
@@ -119,10 +107,14 @@ abbrev pub ack_by : Option ℕ → Option BusPhase → Bool → Bool
 ack_by (Some byte) (Some phase.MsgIn) ack = true
 ack_by _ shown ack = ack
 
+-- a byte is below 256
+abbrev pub as_byte : Option ℕ → Option ℕ
+as_byte byte = option_map (λ (x : ℕ). x % 256) byte
+
 -- a byte comes only in the phase that was asked for
 pub record ComesIn (b : BusState) (byte : Option ℕ) (b' : BusState) : Type 0 where
   pub asked : b.asked ≡ link_phase b.target.link
-  pub byte_is : byte ≡ link_byte b.target.link
+  pub byte_is : byte ≡ as_byte (link_byte b.target.link)
   pub after : b' ≡ record b {
     target = linked b.target (sent_if (link_byte b.target.link) b.target.link);
     ack = ack_by (link_byte b.target.link) (link_phase b.target.link) b.ack;
@@ -132,6 +124,11 @@ pub record StaysOut (b : BusState) (byte : Option ℕ) (b' : BusState) : Type 0 
   pub unasked : b.asked ≡ link_phase b.target.link → ⊥
   pub none : byte ≡ None
   pub same : b' ≡ b
+
+-- a byte is taken, with which a task begins where it is the last one of its descriptor block
+abbrev pub taken_where : (taken : Bool) → BusState → (byte : ℕ) → BusState
+taken_where true b byte = becomes b (target_took live_ticket b.target byte)
+taken_where false b byte = b
 
 -- target 0 alone is there, and answers where the bus is free
 abbrev pub SelectsWhere : Bool → BusState → Settled → BusState → Type 0
@@ -164,7 +161,7 @@ abbrev pub moves : BusState → Event → BusState → Type 0
 moves b (Phase word shown) b' = (mid : BusState) × Turns word b mid × (shown ≡ link_phase mid.target.link) × (b' ≡ record mid { asked = shown })
 moves b (Shown shown) b' = (shown ≡ link_phase b.target.link) × (b' ≡ b)
 moves b (ByteIn byte) b' = ComesIn b byte b' ⊎ StaysOut b byte b'
-moves b (ByteOut byte taken) b' = (taken ≡ link_takes b.target.link) × (b' ≡ record b { target = linked b.target (took_if (link_takes b.target.link) b.target.link byte) })
+moves b (ByteOut byte taken) b' = (taken ≡ link_takes b.target.link) × (b' ≡ taken_where (link_takes b.target.link) b byte)
 moves b (Select target word settled) b' = SelectsWhere (target == 0 && is_free b.target.link) b settled b'
 moves b (Reselect word by) b' = (by ≡ None) × (b' ≡ b)
 moves b (SetAtn on) b' = b' ≡ after_atn on b

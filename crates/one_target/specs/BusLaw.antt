@@ -1,5 +1,5 @@
 -- The bus of one target keeps the laws of a bus.
-use Rattle.std.proofs.Common.{◌≡◌, ℕ, Bool, true, false, ◌&&◌, not, is_none, Option, Some, None, refl, sym, ap, ◌∙◌, ◌⊎◌, inl, inr}
+use Rattle.std.proofs.Common.{◌≡◌, ℕ, ◌<◌, ◌%◌, arith, Bool, true, false, ◌&&◌, not, is_none, Option, Some, None, refl, sym, ap, ◌∙◌, ◌⊎◌, inl, inr}
 use Rattle.scsi_words.specs.declared.phases.kinds.Phase.{Phase as BusPhase}
 use Rattle.scsi_words.specs.declared.phases.kinds.Phase.TheVariants.{MsgIn, MsgOut}
 use Rattle.chip_step.specs.Event.{Event, Phase, Shown, ByteIn, ByteOut, Select, Reselect, SetAtn, ClearAck, Leave}
@@ -7,8 +7,8 @@ use Rattle.chip_step.specs.Laws.{IsLawful}
 use Rattle.chip_step.specs.declared.scsi_bus.Settled.TheVariants.{Selected, Reselected, TimedOut}
 use Rattle.target_law.specs.Bytes.{Connection}
 use Rattle.target_law.specs.Target.{Link, Free, Greeted, Commanded, Working, Straying, Target, linked}
-use Rattle.target_law.specs.Calls.{is_free, link_phase, link_byte, link_takes, took_if, sent_if, target_acted}
-use Rattle.one_target.specs.Bus.{BusState, with_room, become, begins, is_to_choose, SettlesWhere, Acts, Chooses, ChoosesWhere, GoesOn, TurnsWhere, ack_by, ComesIn, StaysOut, SelectsWhere, acked_where, moves, signals_of}
+use Rattle.target_law.specs.Calls.{is_free, link_phase, link_byte, link_takes, sent_if, target_acted}
+use Rattle.one_target.specs.Bus.{BusState, with_room, become, is_to_choose, SettlesWhere, Acts, Chooses, ChoosesWhere, GoesOn, TurnsWhere, as_byte, ack_by, ComesIn, StaysOut, taken_where, SelectsWhere, acked_where, moves, signals_of}
 
 -- no phase is shown, and the target isn't to choose: the bus is free
 free_where : (free : Bool) (shown : Option BusPhase) → shown ≡ None → not free && is_none shown ≡ false → free ≡ true
@@ -54,7 +54,7 @@ goes-free : (b b' : BusState) (word : ℕ) → GoesOn word b b' → link_phase b
 goes-free b b' word g h =
     let e : b'.target ≡ g.target = ap (λ (x : BusState). x.target) g.becomes_it ∙ become-target (is_free g.target.link) b g.target in
     let f : link_phase g.target.link ≡ None = ap (λ (x : Target). link_phase x.link) (sym e) ∙ h in
-    ap (λ (x : Target). is_free x.link) e ∙ turn-free (is_to_choose (begins b.target).link) b word (begins b.target) g.target refl g.chooses f
+    ap (λ (x : Target). is_free x.link) e ∙ turn-free (is_to_choose b.target.link) b word b.target g.target refl g.chooses f
 
 turns-free : (free : Bool) (b b' : BusState) (word : ℕ) → is_free b.target.link ≡ free → TurnsWhere free word b b' → link_phase b'.target.link ≡ None → is_free b'.target.link ≡ true
 turns-free true b b' word e m h = ap (λ (x : BusState). is_free x.target.link) m ∙ e
@@ -65,9 +65,20 @@ free-stays true b b' word e m = m
 free-stays false b b' word e m = absurd cc
 
 -- bytes
-comes-ack : (byte : ℕ) (o : Option ℕ) (shown : Option BusPhase) (ack : Bool) → Some byte ≡ o → shown ≡ Some MsgIn → ack_by o shown ack ≡ true
+comes-ack : (byte : ℕ) (o : Option ℕ) (shown : Option BusPhase) (ack : Bool) → Some byte ≡ as_byte o → shown ≡ Some MsgIn → ack_by o shown ack ≡ true
 comes-ack byte (Some x) shown ack e h = ap (λ (p : Option BusPhase). ack_by (Some x) p ack) h
 comes-ack byte None shown ack e h = absurd cc
+
+-- a byte of the target is below 256
+below : (byte : ℕ) (o : Option ℕ) → Some byte ≡ as_byte o → byte < 256
+below byte (Some x) e = let f : byte ≡ x % 256 = cc in omega arith
+below byte None e = absurd cc
+
+byte-below : (old new : BusState) (byte : ℕ) → ComesIn old (Some byte) new ⊎ StaysOut old (Some byte) new → byte < 256
+byte-below old new byte m = elim m [
+  | inl x ↦ below byte (link_byte old.target.link) x.byte_is
+  | inr x ↦ let e : Some byte ≡ None = x.none in absurd cc
+]
 
 byte_acks : (old new : BusState) (byte : ℕ) → ComesIn old (Some byte) new ⊎ StaysOut old (Some byte) new → link_phase old.target.link ≡ Some MsgIn → new.ack ≡ true
 byte_acks old new byte m shown = elim m [
@@ -75,7 +86,7 @@ byte_acks old new byte m shown = elim m [
   | inr x ↦ let e : Some byte ≡ None = x.none in absurd cc
 ]
 
-no_byte-stays : (o : Option ℕ) (b : BusState) → None ≡ o → record b { target = linked b.target (sent_if o b.target.link); ack = ack_by o (link_phase b.target.link) b.ack } ≡ b
+no_byte-stays : (o : Option ℕ) (b : BusState) → None ≡ as_byte o → record b { target = linked b.target (sent_if o b.target.link); ack = ack_by o (link_phase b.target.link) b.ack } ≡ b
 no_byte-stays (Some x) b e = absurd cc
 no_byte-stays None b e = refl
 
@@ -85,7 +96,7 @@ no_byte old new m = elim m [
   | inr x ↦ x.same
 ]
 
-untaken : (takes : Bool) (b : BusState) (byte : ℕ) → false ≡ takes → record b { target = linked b.target (took_if takes b.target.link byte) } ≡ b
+untaken : (takes : Bool) (b : BusState) (byte : ℕ) → false ≡ takes → taken_where takes b byte ≡ b
 untaken true b byte e = absurd cc
 untaken false b byte e = refl
 
@@ -102,7 +113,7 @@ moves_lawfully old (Phase word None) new m =
     ap (λ (b : BusState). is_free b.target.link) m.3 ∙ turns-free (is_free old.target.link) old m.0 word refl m.1 (sym m.2)
 moves_lawfully old (Phase word (Some phase)) new m = ap (λ (b : BusState). is_free b.target.link) m.3 ∙ unfree m.0.target.link phase m.2
 moves_lawfully old (Shown phase) new m = m.0
-moves_lawfully old (ByteIn (Some byte)) new m = λ shown. byte_acks old new byte m shown
+moves_lawfully old (ByteIn (Some byte)) new m = (byte-below old new byte m, λ shown. byte_acks old new byte m shown)
 moves_lawfully old (ByteIn None) new m = no_byte old new m
 moves_lawfully old (ByteOut byte true) new m = tt
 moves_lawfully old (ByteOut byte false) new m = m.1 ∙ untaken (link_takes old.target.link) old byte m.0

@@ -4,7 +4,7 @@ use Rattle.rig_types.specs.declared.rig.Unit.{Unit as RigUnit}
 use Rattle.target_law.specs.declared.showing.Showing.{Showing}
 use Rattle.target_law.specs.declared.showing.Showing.TheVariants.{Saying}
 use Rattle.target_law.specs.Target.{LogicalUnit, Link, Free, Greeted, Commanded, Working, Straying}
-use Rattle.scsi_target.specs.Devices.{DeviceState, lie_within}
+use Rattle.target_law.specs.Devices.{DeviceState, lie_within}
 use Rattle.one_target.specs.Bus.{BusState, bus_of}
 
 -- a unit that keeps the rules, is there, and has a place for a task

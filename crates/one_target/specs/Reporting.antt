@@ -12,7 +12,8 @@ use Rattle.chip_step.specs.Chip.{Chip}
 use Rattle.straight_run.specs.Opening.{cdb}
 use Rattle.straight_run.specs.Steps.{FromOpening}
 use Rattle.unit_law.specs.Request.{PlainRequest}
-use Rattle.unit_law.specs.Log.{run_log, view_of}
+use Rattle.unit_law.specs.declared.entry.LogEntry.{LogEntry}
+use Rattle.unit_law.specs.Log.{run_log, tally, view_of}
 use Rattle.unit_law.specs.Report.{Setting, Course, Fits, SenseFits}
 use Rattle.target_law.specs.Target.{LogicalUnit, unit_at}
 use Rattle.one_target.specs.Bus.{BusState, moves}
@@ -26,12 +27,13 @@ submitted = replicate 512 0
 abbrev pub request_of : ℕ → PlainRequest
 request_of lba = record { unit = 0; cdb = cdb lba; segments = 512 ∷ []; direction = In; bytes = submitted }
 
--- the rig's word on the unit, and a course without acts
+-- the rig's word on the unit, and what the log says of a ticket that is live all the time, without acts and resets: every Clear of its unit's
+-- log is its own, and has no cause
 abbrev pub the_setting : Setting
 the_setting = record { retries = 0; autosense = false; absent = false; rogue = false }
 
-abbrev pub the_course : Course
-the_course = record { marked = false; clears = 0; bus_reset = false; outside = 0; stray_clears = 0 }
+abbrev pub the_course : List LogEntry → Course
+the_course log = record { marked = false; clears = (tally 0 log).clears; bus_reset = false; outside = 0; stray_clears = (tally 0 log).clears }
 
 -- ticket 0 is done with this status byte, and its buffer holds these bytes
 abbrev pub report_with : ℕ → List ℕ → Report
@@ -50,8 +52,8 @@ report_with status bytes = record {
 abbrev pub report_in : List ℕ → Report
 report_in memory = report_with (slice_index memory 0x10014) (bytes_at memory 0x200000 512)
 
--- The report is one of ticket 0 that fits its unit: from an opened bus the chip made the steps of the straight script up to INT 7, the unit
--- is what its log makes of it alone, and the report fits this log.
+-- The report is the one that host memory holds at INT 7, and fits its unit: from an opened bus the chip made the steps of the straight script
+-- up to INT 7, the unit is what its log makes of it alone, and the report that memory then holds is one of ticket 0 that fits this log.
 pub record OneReport (lba : ℕ) (q : Report) : Type 0 where
   pub bus : BusState
   pub opened : IsOpened bus
@@ -61,10 +63,9 @@ pub record OneReport (lba : ℕ) (q : Report) : Type 0 where
   pub unit : LogicalUnit
   pub unit_is : unit_at chip.bus.target.units 0 ≡ Some unit
   pub alone : unit.plain ≡ (run_log (λ t. request_of lba) one_plain unit.log).unit
-  pub ticket : q.ticket ≡ 0
-  pub of_unit : q.unit ≡ 0
-  pub fits : Fits the_setting (request_of lba) (view_of (λ t. request_of lba) one_plain unit.log 0) the_course q
-  pub sense : SenseFits the_setting (view_of (λ t. request_of lba) one_plain unit.log 0) the_course q
+  pub report_is : q ≡ report_in chip.memory
+  pub fits : Fits the_setting 0 (request_of lba) (view_of (λ t. request_of lba) one_plain unit.log 0) (the_course unit.log) q
+  pub sense : SenseFits the_setting (view_of (λ t. request_of lba) one_plain unit.log 0) (the_course unit.log) q
 
 -- whatever steps the straight script made from an opened bus, host memory then holds the report
 abbrev pub Reported : Type 0

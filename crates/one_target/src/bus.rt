@@ -1,11 +1,11 @@
 //! The bus of the command `one`.
 
 ghost use Rattle.std.specs.Prelude.{◌≡◌, ◌⊎◌, ◌↔◌, IfOk, IsTrue, None};
-ghost use Rattle.target_law.specs.Calls.{link_phase};
-ghost use Rattle.one_target.specs.Bus.{Turns, ComesIn, StaysOut, ack_by, after_ack, is_message, messaged_where};
+ghost use Rattle.target_law.specs.Calls.{link_phase, link_takes};
+ghost use Rattle.one_target.specs.Bus.{Turns, ComesIn, StaysOut, as_byte, taken_where, ack_by, after_ack, is_message, messaged_where};
 ghost use Rattle.one_target.specs.Opening.{IsOpened};
 
-use crate::turn::{begin, choose};
+use crate::turn::{choose, ticket_at};
 use chip_step::{Bus, Settled};
 use rig_types::{Pattern, Unit};
 use scsi_target::Device;
@@ -73,7 +73,6 @@ impl OneBus {
         if !self.device.connected() {
             return;
         }
-        begin(&mut self.device);
         choose(&mut self.device, self.atn, word);
         let bound = self.device.connected();
         self.atn = self.atn & bound;
@@ -118,7 +117,32 @@ impl OneBus {
         }
         let byte = self.device.byte_in();
         self.ack = ack_by(byte, shown, self.ack);
-        byte
+        as_byte(byte)
+    }
+
+    /// A byte is taken; the last one of a command descriptor block begins its task.
+    fn take(&mut self, b: u8) -> bool
+        ensures taken { result ≡ link_takes self.old.target.link }
+        ensures after { self.new ≡ taken_where (link_takes self.old.target.link) self.old b }
+    {
+        let ticket = ticket_at(self.device.nexus());
+        if !self.device.take_byte(b, ticket) {
+            return false;
+        }
+        let bound = self.device.connected();
+        self.atn = self.atn & bound;
+        self.ack = self.ack & bound;
+        true
+    }
+}
+
+/// The byte, which is below 256.
+fn as_byte(byte: Option<u8>) -> Option<u8>
+    ensures { result ≡ as_byte byte }
+{
+    match byte {
+        Some(b) => Some(b),
+        None => None,
     }
 }
 
@@ -172,7 +196,7 @@ impl Bus for OneBus {
     }
 
     fn byte_out(&mut self, b: u8) -> bool {
-        self.device.byte_out(b)
+        self.take(b)
     }
 
     fn select(&mut self, target: u8, _word: u32) -> Settled {

@@ -1,44 +1,19 @@
-//! The target's turn: its task begins, and it chooses.
+//! The target's turn: it chooses. And the ticket of its one task.
 
 ghost use Rattle.std.specs.Prelude.{◌≡◌, true};
-ghost use Rattle.target_law.specs.Target.{unit_at};
-ghost use Rattle.one_target.specs.Bus.{begins, is_idle, is_to_choose, live_ticket, ActsAt, ChoosesWhere, Settles};
+ghost use Rattle.one_target.specs.Bus.{is_to_choose, ticket_at, ActsAt, ChoosesWhere, Settles};
 ghost use Rattle.one_target.specs.Holding.{IsHeldDevice};
 
 use scsi_target::Device;
 use target_law::Nexus;
 
-/// Whether no task of the unit waits.
-fn is_idle(device: &Device) -> bool
-    requires { IsHeldDevice device.now }
-    ensures { result ≡ is_idle (unit_at device.now.target.units 0) }
+/// The live ticket of a connection's nexus: ticket 0 under tag 0 of LUN 0.
+pub(crate) fn ticket_at(nexus: Option<Nexus>) -> Option<u32>
+    ensures { result ≡ ticket_at nexus }
 {
-    device.can_reselect(0) == 0
-}
-
-/// The live ticket of a nexus.
-fn live_ticket(device: &Device, nexus: Nexus) -> Option<u32>
-    requires { IsHeldDevice device.now }
-    ensures { result ≡ live_ticket device.now.target nexus }
-{
-    if nexus.lun == 0 && nexus.tag == 0 && is_idle(device) {
-        Some(0)
-    } else {
-        None
-    }
-}
-
-/// Where a command descriptor block is whole, its task is begun.
-pub(crate) fn begin(device: &mut Device)
-    requires { IsHeldDevice device.old }
-    ensures { device.new ≡ record { target = begins device.old.target; rooms = device.old.rooms } }
-{
-    if !device.cdb_whole() {
-        return;
-    }
-    if let Some(nexus) = device.nexus() {
-        let ticket = live_ticket(device, nexus);
-        device.begin_task(ticket);
+    match nexus {
+        Some(named) if named.lun == 0 && named.tag == 0 => Some(0),
+        _ => None,
     }
 }
 

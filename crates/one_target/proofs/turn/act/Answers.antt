@@ -1,5 +1,5 @@
 use Rattle.std.proofs.Common.{refl, sym, subst}
-use Rattle.scsi_target.specs.Devices.{DeviceState}
+use Rattle.target_law.specs.Devices.{DeviceState}
 use Rattle.one_target.specs.Bus.{Settles}
 use Rattle.one_target.specs.Holding.{IsHeldDevice}
 use Rattle.target_law.specs.Calls.{target_acted}

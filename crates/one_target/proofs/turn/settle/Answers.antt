@@ -1,9 +1,9 @@
 use Rattle.std.proofs.Common.{sym, ◌∙◌}
-use Rattle.one_target.proofs.Calling.{rogue-none, settled}
+use Rattle.one_target.proofs.Calling.{lawful-link, settled}
 use Rattle.one_target.proofs.turn.settle.Goals as goal
 
-pub ask_message-requires-clause-lawful : goal.ask_message-requires-clause-lawful
-ask_message-requires-clause-lawful c = rogue-none c.args.device.now c.requires
+pub ask_message-requires : goal.ask_message-requires
+ask_message-requires c = lawful-link c.args.device.now c.requires
 
 pub returns-then-is_to_choose-clause-settles : goal.returns-then-is_to_choose-clause-settles
 returns-then-is_to_choose-clause-settles c =

@@ -12,8 +12,8 @@ reserve-requires c = opened-has unit refl c.in_ok-device.device c.in_ok-device.e
 
 pub invariant_of-result : goal.invariant_of-result
 invariant_of-result c =
-    opened-held unit refl refl c.reserve.new.self (roomy unit refl c.in_ok-device.device c.reserve.new.self c.in_ok-device.ensures c.in_ok-reserve.ensures.target c.in_ok-reserve.ensures.spare)
+    opened-held unit refl refl c.reserve.new.self (roomy unit refl c.in_ok-device.device c.reserve.new.self c.in_ok-device.ensures c.in_ok-reserve.ensures.ok)
 
 pub returns-clause-opened : goal.returns-clause-opened
 returns-clause-opened c =
-    is-opened unit the_unit c.reserve.new.self (roomy unit refl c.in_ok-device.device c.reserve.new.self c.in_ok-device.ensures c.in_ok-reserve.ensures.target c.in_ok-reserve.ensures.spare)
+    is-opened unit the_unit c.reserve.new.self (roomy unit refl c.in_ok-device.device c.reserve.new.self c.in_ok-device.ensures c.in_ok-reserve.ensures.ok)

@@ -1,10 +1,10 @@
 use Rattle.one_target.specs.Bus.{bus_of}
-use Rattle.one_target.proofs.Calling.{absent-none, selected-held}
+use Rattle.one_target.proofs.Calling.{is-present, selected-held}
 use Rattle.one_target.proofs.Between.{kept-of}
 use Rattle.one_target.proofs.bus.OneBusBus.select.Goals as goal
 
 pub select-requires-clause-present : goal.select-requires-clause-present
-select-requires-clause-present c = absent-none c.self.inside.device (kept-of (bus_of c.self.inside.device c.self.inside.atn c.self.inside.ack c.self.inside.asked) c.self.invariant)
+select-requires-clause-present c = is-present c.self.inside.device (kept-of (bus_of c.self.inside.device c.self.inside.atn c.self.inside.ack c.self.inside.asked) c.self.invariant)
 
 pub invariant_of-self : goal.invariant_of-self
 invariant_of-self c =
