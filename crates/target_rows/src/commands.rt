@@ -148,25 +148,6 @@ fn a_read_starts_again_after_disconnecting(rt: HostRuntime) -> Result<(), Fail> 
 }
 
 #[test]
-fn two_reads_reselect_by_tag(rt: HostRuntime) -> Result<(), Fail> {
-    let mut unit = Initiator::open(rt.alloc(), &UNIT, 8)?;
-    for (tag, ticket) in [(9, 0), (4, 1)] {
-        assert!(rt; command(&mut unit, tag, &read(tag, 1), Some(ticket)));
-        assert!(rt; make(&mut unit, Move::Leave));
-        assert!(rt; messages(&mut unit, &[4]) && !unit.connected());
-    }
-    assert_eq!(rt; unit.candidates(), 2);
-    assert!(rt; !unit.reselect(2, 0));
-    for (n, tag) in [(1, 9), (0, 4)] {
-        assert!(rt; unit.reselect(n, 0));
-        assert!(rt; messages(&mut unit, &[0x83, 0x20, tag]));
-        assert!(rt; count_from(&data_in(rt.alloc(), &mut unit, 512)?, tag));
-        assert!(rt; finish(&mut unit, END) == Some(0));
-    }
-    Ok(())
-}
-
-#[test]
 fn a_ticket_is_refused_at_most_twice(rt: HostRuntime) -> Result<(), Fail> {
     let refusing = Unit {
         refusals: 2,
