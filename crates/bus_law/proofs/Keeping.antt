@@ -8,7 +8,8 @@ use Rattle.chip_step.specs.Event.{Event, Phase, Shown, ByteIn, ByteOut, Select, 
 use Rattle.chip_step.specs.Laws.{IsLawful}
 use Rattle.chip_step.specs.declared.scsi_bus.Settled.TheVariants.{Selected, Reselected, TimedOut}
 use Rattle.target_law.specs.declared.nexus.Nexus.{Nexus}
-use Rattle.target_law.specs.Target.{Link, Free, Greeted, Commanded, Working, Straying}
+use Rattle.target_law.specs.Target as connection_state
+use Rattle.target_law.specs.Target.{ConnectionState, BusFree, TakingCommand, TaskConnected, RogueConnected}
 use Rattle.target_law.specs.Calls.{is_free, link_phase, link_byte}
 use Rattle.target_law.specs.Devices.{DeviceState}
 use Rattle.bus_law.specs.Bus.{BusState, device_at, device_of, link_on, signals_of, free_if, with_device}
@@ -18,12 +19,12 @@ use Rattle.bus_law.specs.Reselections.{Candidate, if_id, with_id, named_if, call
 use Rattle.bus_law.specs.Attention.{after_ack}
 use Rattle.bus_law.specs.Moves.{moves}
 
-unfree : (l : Link) (p : BusPhase) → Some p ≡ link_phase l → is_free l ≡ false
-unfree Free p e = absurd cc
-unfree (Greeted heard) p e = refl
-unfree (Commanded n taken) p e = refl
-unfree (Working c) p e = refl
-unfree (Straying s n) p e = refl
+unfree : (l : ConnectionState) (p : BusPhase) → Some p ≡ link_phase l → is_free l ≡ false
+unfree BusFree p e = absurd cc
+unfree (connection_state.Selected heard) p e = refl
+unfree (TakingCommand n taken) p e = refl
+unfree (TaskConnected c) p e = refl
+unfree (RogueConnected s n) p e = refl
 
 -- a target that has had its turn and shows nothing has left the bus
 left-free : (shown : Option BusPhase) (d : DeviceState) → link_phase d.target.link ≡ shown → link_phase (left_by shown d).target.link ≡ None → is_free (left_by shown d).target.link ≡ true
@@ -62,8 +63,8 @@ byte-below false o byte e = absurd cc
 
 byte-acks : (id : Option ℕ) (b new : BusState) (byte : ℕ) → b.connected ≡ id → Some byte ≡ byte_of b → new ≡ after_byte_in id (Some byte) b → link_phase (link_on b) ≡ Some MsgIn → new.ack ≡ true
 byte-acks None b new byte e h m shown =
-    let free : link_on b ≡ Free = ap (λ (x : Option ℕ). (device_of b x).target.link) e in
-    let f : Some byte ≡ None = h ∙ ap (λ (l : Link). if_asked (is_same_phase b.asked (link_phase l)) (link_byte l)) free ∙ no_byte (is_same_phase b.asked None) in
+    let free : link_on b ≡ BusFree = ap (λ (x : Option ℕ). (device_of b x).target.link) e in
+    let f : Some byte ≡ None = h ∙ ap (λ (l : ConnectionState). if_asked (is_same_phase b.asked (link_phase l)) (link_byte l)) free ∙ no_byte (is_same_phase b.asked None) in
     absurd cc
 byte-acks (Some id) b new byte e h m shown = ap (λ (x : BusState). x.ack) m ∙ ap (λ (p : Option BusPhase). is_message_in p || b.ack) shown
 

@@ -6,7 +6,7 @@ use Rattle.rig_types.specs.declared.rig.Unit.{Unit as RigUnit}
 use Rattle.chip_step.specs.Event.{Event, Phase, Shown, ByteIn, ByteOut, Select, Reselect, SetAtn, ClearAck, Leave}
 use Rattle.target_law.specs.declared.nexus.Nexus.{Nexus}
 use Rattle.target_law.specs.Session.{Task}
-use Rattle.target_law.specs.Target.{LogicalUnit, Link, Free, Greeted, Commanded, Working, Straying, Target, unit_at, on_unit, target_opened, target_reset}
+use Rattle.target_law.specs.Target.{LogicalUnit, ConnectionState, BusFree, Selected, TakingCommand, TaskConnected, RogueConnected, Target, unit_at, on_unit, target_opened, target_reset}
 use Rattle.target_law.specs.Calls.{answers, is_free, link_phase, sent_if, is_rogue, selected_by, candidates_by, task_reselected, reselected_by, target_reselected}
 use Rattle.target_law.specs.Devices.{DeviceState, device_opened, lie_within, where_room}
 use Rattle.bus_law.specs.Bus.{BusState, no_device, device_at, link_on, free_if, with_device, becomes, units_of, bus_opened, device_reset, bus_reset}
@@ -98,13 +98,13 @@ turn : (o : Option ℕ) (word : ℕ) (b : BusState) → b.connected ≡ o → On
 turn None word b e c = c
 turn (Some id) word b e c = comes-to b id (turned b.atn word (device_at b id)) e c
 
-sent-holds : (byte : Option ℕ) (l : Link) → is_free l ≡ false → is_free (sent_if byte l) ≡ false
+sent-holds : (byte : Option ℕ) (l : ConnectionState) → is_free l ≡ false → is_free (sent_if byte l) ≡ false
 sent-holds None l h = h
-sent-holds (Some x) Free h = absurd cc
-sent-holds (Some x) (Greeted heard) h = refl
-sent-holds (Some x) (Commanded n taken) h = refl
-sent-holds (Some x) (Working c) h = refl
-sent-holds (Some x) (Straying s n) h = refl
+sent-holds (Some x) BusFree h = absurd cc
+sent-holds (Some x) (Selected heard) h = refl
+sent-holds (Some x) (TakingCommand n taken) h = refl
+sent-holds (Some x) (TaskConnected c) h = refl
+sent-holds (Some x) (RogueConnected s n) h = refl
 
 byte-in : (o byte : Option ℕ) (b : BusState) → b.connected ≡ o → OneConnected b → OneConnected (after_byte_in o byte b)
 byte-in None None b e c = c

@@ -5,7 +5,7 @@ use Rattle.std.specs.List.{range_with_len}
 use Rattle.scsi_words.specs.declared.phases.kinds.Phase.{Phase as BusPhase}
 use Rattle.rig_types.specs.declared.rig.Unit.{Unit as RigUnit}
 use Rattle.chip_step.specs.Laws.{Signals}
-use Rattle.target_law.specs.Target.{Link, Free, target_reset}
+use Rattle.target_law.specs.Target.{ConnectionState, BusFree, target_reset}
 use Rattle.target_law.specs.Calls.{is_free, link_phase}
 use Rattle.target_law.specs.Devices.{DeviceState, device_opened, where_room}
 
@@ -19,7 +19,7 @@ pub record BusState : Type 0 where
 
 -- a device without units stands where there is none
 abbrev pub no_device : DeviceState
-no_device = record { target = record { units = []; link = Free }; rooms = [] }
+no_device = record { target = record { units = []; link = BusFree }; rooms = [] }
 
 abbrev pub device_at : BusState → ℕ → DeviceState
 device_at b id = slice_index_or b.devices id no_device
@@ -29,7 +29,7 @@ device_of b None = no_device
 device_of b (Some id) = device_at b id
 
 -- the link of the connected device
-abbrev pub link_on : BusState → Link
+abbrev pub link_on : BusState → ConnectionState
 link_on b = (device_of b b.connected).target.link
 
 abbrev pub signals_of : BusState → Signals

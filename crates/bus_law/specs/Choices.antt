@@ -5,7 +5,7 @@ use Rattle.target_law.specs.declared.moves.Move.{Move}
 use Rattle.target_law.specs.declared.moves.Move.TheVariants.{Rogue}
 use Rattle.target_law.specs.Bytes.{Connection}
 use Rattle.target_law.specs.Choice.{offered, index}
-use Rattle.target_law.specs.Target.{LogicalUnit, Link, Free, Working, Straying, Target, unit_at, session, linked, parted}
+use Rattle.target_law.specs.Target.{LogicalUnit, ConnectionState, BusFree, TaskConnected, RogueConnected, Target, unit_at, session, linked, parted}
 use Rattle.target_law.specs.Calls.{link_phase, target_acted, asked_by}
 use Rattle.target_law.specs.Lawful.{refused_so_far}
 use Rattle.target_law.specs.Devices.{DeviceState, where_room}
@@ -19,9 +19,9 @@ abbrev pub named_by : LogicalUnit → Connection → ℕ → Option Move
 named_by u c word = slice_get (moves_of u c word) (index word (length (moves_of u c word)))
 
 -- a unit that breaks the rules moves by the word itself
-abbrev pub named : Link → Target → ℕ → Option Move
-named (Working c) t word = option_and_then (λ u. named_by u c word) (unit_at t.units c.lun)
-named (Straying s n) t word = Some (Rogue word)
+abbrev pub named : ConnectionState → Target → ℕ → Option Move
+named (TaskConnected c) t word = option_and_then (λ u. named_by u c word) (unit_at t.units c.lun)
+named (RogueConnected s n) t word = Some (Rogue word)
 named _ t word = None
 
 abbrev pub acts : Option Move → DeviceState → DeviceState
@@ -29,14 +29,14 @@ acts (Some m) d = where_room d (target_acted d.target m)
 acts None d = d
 
 -- while ATN is asserted, a task shows MSG_OUT instead
-abbrev pub chooses : Link → (atn : Bool) → ℕ → DeviceState → DeviceState
-chooses (Working c) true word d = record d { target = linked d.target (asked_by (Working c)) }
+abbrev pub chooses : ConnectionState → (atn : Bool) → ℕ → DeviceState → DeviceState
+chooses (TaskConnected c) true word d = record d { target = linked d.target (asked_by (TaskConnected c)) }
 chooses l atn word d = acts (named l d.target word) d
 
 -- A target that still shows no phase leaves the bus, its task away as by DISCONNECT: that was its move, or it had none for which its log has
 -- room.
 abbrev pub left_by : Option BusPhase → DeviceState → DeviceState
-left_by None d = record d { target = linked (parted d.target.link d.target) Free }
+left_by None d = record d { target = linked (parted d.target.link d.target) BusFree }
 left_by (Some shown) d = d
 
 abbrev pub left_where : DeviceState → DeviceState

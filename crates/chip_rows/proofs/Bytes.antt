@@ -29,8 +29,8 @@ use Rattle.chip_step.specs.Connection.{with_table, reselected_by, WaitsAt, Resel
 use Rattle.chip_step.specs.Transfers.{TransfersAt, Transfers}
 use Rattle.chip_step.specs.Memory.{filled, stored, copied, LoadsAt, StoresAt}
 use Rattle.chip_step.specs.Instructions.{changed, Does}
-use Rattle.chip_step.specs.Step as ran
-use Rattle.chip_step.specs.Step.{Ran, after_fetch}
+use Rattle.chip_step.specs.Step as chip_step
+use Rattle.chip_step.specs.Step.{ChipStep, after_fetch}
 use Rattle.chip_step.specs.declared.scsi_bus.Settled.{Settled}
 use Rattle.chip_step.specs.declared.scsi_bus.Settled.TheVariants.{Selected, Reselected, TimedOut}
 use Rattle.chip_step.specs.declared.outcome.StepEnd.{StepEnd}
@@ -189,15 +189,15 @@ module _ {B : Type 0} (moves : B → Event → B → Type 0) (fit : AnswersFit m
       let w : word_at old.memory old.regs.dsp < 2 ^ 32 = word_at-below old.memory old.regs.dsp g.memory in
       record { memory = g.memory; regs = record { are = (narrow-dcmd old.regs (word_at old.memory old.regs.dsp / 16777216) g.regs (omega arith)).are } }
 
-  ran_good : (word : ℕ) (old : Chip B) (end : StepEnd) (new : Chip B) → Good old → Ran moves word old end new → Good new
-  ran_good word old end new g (ran.idle s e n) = subst (λ (c : Chip B). Good c) (sym n) g
-  ran_good word old end new g (ran.unfetched s c h) = stops _ old end new g h
-  ran_good word old end new g (ran.unspelled s c n h) = stops _ (after_fetch old) end new (fetched_good old g) h
-  ran_good word old end new g (ran.does s c o at h) = does word o old (after_fetch old) end new at.fields g (fetched_good old g) h
+  step_good : (word : ℕ) (old : Chip B) (end : StepEnd) (new : Chip B) → Good old → ChipStep moves word old end new → Good new
+  step_good word old end new g (chip_step.idle s e n) = subst (λ (c : Chip B). Good c) (sym n) g
+  step_good word old end new g (chip_step.unfetched s c h) = stops _ old end new g h
+  step_good word old end new g (chip_step.unspelled s c n h) = stops _ (after_fetch old) end new (fetched_good old g) h
+  step_good word old end new g (chip_step.does s c o at h) = does word o old (after_fetch old) end new at.fields g (fetched_good old g) h
 
   pub steps_keep_bytes : StepsKeepBytes moves
   steps_keep_bytes word old end new g h =
-      let n : Good new = ran_good word old end new (record { memory = g.memory; regs = narrow-from_bytes old.regs g.regs }) h in
+      let n : Good new = step_good word old end new (record { memory = g.memory; regs = narrow-from_bytes old.regs g.regs }) h in
       record { memory = n.memory; regs = bytes-from_narrow new.regs n.regs }
 
 -- the answers of a lawful bus fit

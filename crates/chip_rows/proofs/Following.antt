@@ -19,8 +19,8 @@ use Rattle.chip_step.specs.Connection.{with_table, WaitsAt, ReselectsBy, Asserts
 use Rattle.chip_step.specs.Transfers.{TransfersAt, Decides, Transfers}
 use Rattle.chip_step.specs.Memory.{LoadsAt, StoresAt}
 use Rattle.chip_step.specs.Instructions.{Does}
-use Rattle.chip_step.specs.Step as ran
-use Rattle.chip_step.specs.Step.{Ran, after_fetch}
+use Rattle.chip_step.specs.Step as chip_step
+use Rattle.chip_step.specs.Step.{ChipStep, after_fetch}
 use Rattle.chip_step.specs.declared.scsi_bus.Settled.{Settled}
 use Rattle.chip_step.specs.declared.scsi_bus.Settled.TheVariants.{Selected, Reselected, TimedOut}
 use Rattle.chip_step.specs.declared.outcome.StepEnd.{StepEnd}
@@ -249,10 +249,10 @@ module _ {A B : Type 0} (first : A → Event → A → Type 0) (second : B → E
       choose related new.bus _ _ (nat_eq (low_bits old.regs.dsa place) (register % 4)) (stores_at (address_of old.memory old.regs.dsa place n) register n old end new u r) (stops _ old end new u r) h
 
   pub steps_follow : StepsFollow first second related
-  steps_follow word old u end new r (ran.idle s e n) = (u, ran.idle s e (ap (λ (c : Chip A). over u c) n), subst (λ (c : Chip A). related c.bus u) (sym n) r)
-  steps_follow word old u end new r (ran.unfetched s c h) = let x = stops _ old end new u r h in (x.0, ran.unfetched s c x.1, x.2)
-  steps_follow word old u end new r (ran.unspelled s c n h) = let x = stops _ (after_fetch old) end new u r h in (x.0, ran.unspelled s c n x.1, x.2)
-  steps_follow word old u end new r (ran.does s c o at h) = let x = does word o old (after_fetch old) end new u refl r h in (x.0, ran.does s c o at x.1, x.2)
+  steps_follow word old u end new r (chip_step.idle s e n) = (u, chip_step.idle s e (ap (λ (c : Chip A). over u c) n), subst (λ (c : Chip A). related c.bus u) (sym n) r)
+  steps_follow word old u end new r (chip_step.unfetched s c h) = let x = stops _ old end new u r h in (x.0, chip_step.unfetched s c x.1, x.2)
+  steps_follow word old u end new r (chip_step.unspelled s c n h) = let x = stops _ (after_fetch old) end new u r h in (x.0, chip_step.unspelled s c n x.1, x.2)
+  steps_follow word old u end new r (chip_step.does s c o at h) = let x = does word o old (after_fetch old) end new u refl r h in (x.0, chip_step.does s c o at x.1, x.2)
 
 -- ---- the states of one bus as a part of another's
 
@@ -265,10 +265,10 @@ IsSeen seen P x u = P x × (u ≡ seen x)
 
 -- a step is one of what is seen, and keeps the fact
 pub steps_show : {A B : Type 0} (seen : A → B) (P : A → Type 0) (first : A → Event → A → Type 0) (second : B → Event → B → Type 0) → Shows seen P first second →
-    (word : ℕ) (old : Chip A) (end : StepEnd) (new : Chip A) → P old.bus → Ran first word old end new → P new.bus × Ran second word (over (seen old.bus) old) end (over (seen new.bus) new)
+    (word : ℕ) (old : Chip A) (end : StepEnd) (new : Chip A) → P old.bus → ChipStep first word old end new → P new.bus × ChipStep second word (over (seen old.bus) old) end (over (seen new.bus) new)
 steps_show {A} {B} seen P first second shows word old end new p h =
     let follows : Follows first second (IsSeen seen P) = λ x u e y r m.
     let c : P y × second (seen x) e (seen y) = shows x e y r.0 m in
     (seen y, subst (λ (w : B). second w e (seen y)) (sym r.1) c.1, (c.0, refl), λ q. ap seen q ∙ sym r.1) in
     let s = steps_follow first second (IsSeen seen P) follows word old (seen old.bus) end new (p, refl) h in
-    (s.2.0, subst (λ (w : B). Ran second word (over (seen old.bus) old) end (over w new)) s.2.1 s.1)
+    (s.2.0, subst (λ (w : B). ChipStep second word (over (seen old.bus) old) end (over w new)) s.2.1 s.1)

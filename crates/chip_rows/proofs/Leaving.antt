@@ -22,13 +22,13 @@ use Rattle.chip_step.specs.Connection.{with_table, WaitsAt, ReselectsBy, Settles
 use Rattle.chip_step.specs.Transfers.{TransfersAt, Transfers}
 use Rattle.chip_step.specs.Memory.{filled, stored, copied, LoadsAt, StoresAt}
 use Rattle.chip_step.specs.Instructions.{changed, Does}
-use Rattle.chip_step.specs.Step as ran
-use Rattle.chip_step.specs.Step.{Ran, IsAt, after_fetch, can_fetch, third_at}
+use Rattle.chip_step.specs.Step as chip_step
+use Rattle.chip_step.specs.Step.{ChipStep, IsAt, after_fetch, can_fetch, third_at}
 use Rattle.chip_step.specs.declared.scsi_bus.Settled.{Settled}
 use Rattle.chip_step.specs.declared.scsi_bus.Settled.TheVariants.{Selected, Reselected, TimedOut}
 use Rattle.chip_step.specs.declared.outcome.StepEnd.{StepEnd}
 use Rattle.chip_step.specs.declared.outcome.StepEnd.TheVariants as ends
-use Rattle.chip_step.proofs.Made.{one_spelling, Ran-does}
+use Rattle.chip_step.proofs.Made.{one_spelling, ChipStep-does}
 use Rattle.chip_rows.specs.Touched.{Range, IsIn, Block, block_of, entry_of, came, is_in, range, range_at, of_block, writes}
 use Rattle.chip_rows.specs.Leaving.{ChangesWithin, KeepsSize, WritesWithin, NoRowWrites, StopsLeaveMemory, RunsOn, IsCounted, CountsDown}
 
@@ -364,37 +364,37 @@ module _ {B : Type 0} (moves : B → Event → B → Type 0) where
   idle_leaves ranges old end new e n = still ranges old end new (ap (λ (c : Chip B). c.memory) n) (λ q. let f : ends.Idle ≡ ends.Ran = sym e ∙ q in absurd cc)
 
   pub writes_within : WritesWithin moves
-  writes_within word old end new x at (ran.idle s e n) = (idle_leaves _ old end new e n).changes
-  writes_within word old end new x at (ran.unfetched s c h) = (stops (writes x old new.regs.dbc) old end new _ h).changes
-  writes_within word old end new x at (ran.unspelled s c n h) = absurd (n x at)
-  writes_within word old end new x at (ran.does s c o there h) =
+  writes_within word old end new x at (chip_step.idle s e n) = (idle_leaves _ old end new e n).changes
+  writes_within word old end new x at (chip_step.unfetched s c h) = (stops (writes x old new.regs.dbc) old end new _ h).changes
+  writes_within word old end new x at (chip_step.unspelled s c n h) = absurd (n x at)
+  writes_within word old end new x at (chip_step.does s c o there h) =
       let e : o ≡ x = one_spelling (word_at old.memory old.regs.dsp) (word_at old.memory (old.regs.dsp + 4)) (third_at old.memory old.regs) o x there at in
       let l : ChangesWithin (writes o (after_fetch old) new.regs.dbc) old.memory new.memory = (does word o old (after_fetch old) end new there.fields refl s h).changes in
       subst (λ (r : List Range). ChangesWithin r old.memory new.memory) (writes_fetched o old new.regs.dbc ∙ ap (λ (y : Op). writes y old new.regs.dbc) e) l
 
   pub keeps_size : KeepsSize moves
-  keeps_size word old end new (ran.idle s e n) = ap (λ (c : Chip B). length c.memory) n
-  keeps_size word old end new (ran.unfetched s c h) = ap length h.ends.memory_is
-  keeps_size word old end new (ran.unspelled s c n h) = ap length h.ends.memory_is
-  keeps_size word old end new (ran.does s c o there h) = (does word o old (after_fetch old) end new there.fields refl s h).changes.size
+  keeps_size word old end new (chip_step.idle s e n) = ap (λ (c : Chip B). length c.memory) n
+  keeps_size word old end new (chip_step.unfetched s c h) = ap length h.ends.memory_is
+  keeps_size word old end new (chip_step.unspelled s c n h) = ap length h.ends.memory_is
+  keeps_size word old end new (chip_step.does s c o there h) = (does word o old (after_fetch old) end new there.fields refl s h).changes.size
 
   pub no_row_writes : NoRowWrites moves
-  no_row_writes word old end new none (ran.idle s e n) = ap (λ (c : Chip B). c.memory) n
-  no_row_writes word old end new none (ran.unfetched s c h) = h.ends.memory_is
-  no_row_writes word old end new none (ran.unspelled s c n h) = h.ends.memory_is
-  no_row_writes word old end new none (ran.does s c o there h) = absurd (none o there)
+  no_row_writes word old end new none (chip_step.idle s e n) = ap (λ (c : Chip B). c.memory) n
+  no_row_writes word old end new none (chip_step.unfetched s c h) = h.ends.memory_is
+  no_row_writes word old end new none (chip_step.unspelled s c n h) = h.ends.memory_is
+  no_row_writes word old end new none (chip_step.does s c o there h) = absurd (none o there)
 
   pub stops_leave_memory : StopsLeaveMemory moves
-  stops_leave_memory word old cause new ne (ran.idle s e n) = ap (λ (c : Chip B). c.memory) n
-  stops_leave_memory word old cause new ne (ran.unfetched s c h) = h.ends.memory_is
-  stops_leave_memory word old cause new ne (ran.unspelled s c n h) = h.ends.memory_is
-  stops_leave_memory word old cause new ne (ran.does s c o there h) = (does word o old (after_fetch old) (ends.Stopped cause) new there.fields refl s h).stops cause refl ne
+  stops_leave_memory word old cause new ne (chip_step.idle s e n) = ap (λ (c : Chip B). c.memory) n
+  stops_leave_memory word old cause new ne (chip_step.unfetched s c h) = h.ends.memory_is
+  stops_leave_memory word old cause new ne (chip_step.unspelled s c n h) = h.ends.memory_is
+  stops_leave_memory word old cause new ne (chip_step.does s c o there h) = (does word o old (after_fetch old) (ends.Stopped cause) new there.fields refl s h).stops cause refl ne
 
   pub runs_on : RunsOn moves
-  runs_on word old new (ran.idle s e n) = absurd cc
-  runs_on word old new (ran.unfetched s c h) = let e : ends.Ran ≡ ends.Stopped _ = h.ends.is in absurd cc
-  runs_on word old new (ran.unspelled s c n h) = let e : ends.Ran ≡ ends.Stopped _ = h.ends.is in absurd cc
-  runs_on word old new (ran.does s c o there h) = (does word o old (after_fetch old) ends.Ran new there.fields refl s h).runs refl
+  runs_on word old new (chip_step.idle s e n) = absurd cc
+  runs_on word old new (chip_step.unfetched s c h) = let e : ends.Ran ≡ ends.Stopped _ = h.ends.is in absurd cc
+  runs_on word old new (chip_step.unspelled s c n h) = let e : ends.Ran ≡ ends.Stopped _ = h.ends.is in absurd cc
+  runs_on word old new (chip_step.does s c o there h) = (does word o old (after_fetch old) ends.Ran new there.fields refl s h).runs refl
 
   -- ---- the count of a block move
 
@@ -413,4 +413,4 @@ module _ {B : Type 0} (moves : B → Event → B → Type 0) where
 
   pub counts_down : CountsDown moves
   counts_down word old end new x block run fetch at e h =
-      does_count word x old (after_fetch old) end new block run (block_fetched x old ∙ e) (Ran-does moves word old end new x run fetch at h)
+      does_count word x old (after_fetch old) end new block run (block_fetched x old ∙ e) (ChipStep-does moves word old end new x run fetch at h)

@@ -20,8 +20,8 @@ use Rattle.chip_step.specs.Connection.{with_table, WaitsAt, ReselectsBy, Asserts
 use Rattle.chip_step.specs.Transfers.{when_phase, unless_not, is_phase, TransfersAt, Decides, Transfers}
 use Rattle.chip_step.specs.Memory.{LoadsAt, StoresAt}
 use Rattle.chip_step.specs.Instructions.{Does}
-use Rattle.chip_step.specs.Step as ran
-use Rattle.chip_step.specs.Step.{Ran, can_fetch, third_at, after_fetch}
+use Rattle.chip_step.specs.Step as chip_step
+use Rattle.chip_step.specs.Step.{ChipStep, can_fetch, third_at, after_fetch}
 use Rattle.chip_step.specs.declared.scsi_bus.Settled.{Settled}
 use Rattle.chip_step.specs.declared.scsi_bus.Settled.TheVariants.{Selected, Reselected, TimedOut}
 use Rattle.chip_step.specs.declared.outcome.StepEnd.{StepEnd}
@@ -251,20 +251,20 @@ module _ {B : Type 0} (moves : B → Event → B → Type 0) (one : HasOneAnswer
   clash b p q = let e : true ≡ false = sym p ∙ q in absurd cc
 
   pub once : HasOneEnd moves
-  once word old e e' n n' (ran.idle s h i) (ran.idle t k j) = (h ∙ sym k, i ∙ sym j)
-  once word old e e' n n' (ran.idle s h i) (ran.unfetched t c k) = clash (is_stopped old.regs) s t
-  once word old e e' n n' (ran.idle s h i) (ran.unspelled t c u k) = clash (is_stopped old.regs) s t
-  once word old e e' n n' (ran.idle s h i) (ran.does t c o at k) = clash (is_stopped old.regs) s t
-  once word old e e' n n' (ran.unfetched s c h) (ran.idle t k j) = clash (is_stopped old.regs) t s
-  once word old e e' n n' (ran.unfetched s c h) (ran.unfetched t d k) = stops _ old e e' n n' h k
-  once word old e e' n n' (ran.unfetched s c h) (ran.unspelled t d u k) = clash (can_fetch old.memory old.regs) d c
-  once word old e e' n n' (ran.unfetched s c h) (ran.does t d o at k) = clash (can_fetch old.memory old.regs) d c
-  once word old e e' n n' (ran.unspelled s c u h) (ran.idle t k j) = clash (is_stopped old.regs) t s
-  once word old e e' n n' (ran.unspelled s c u h) (ran.unfetched t d k) = clash (can_fetch old.memory old.regs) c d
-  once word old e e' n n' (ran.unspelled s c u h) (ran.unspelled t d v k) = stops _ (after_fetch old) e e' n n' h k
-  once word old e e' n n' (ran.unspelled s c u h) (ran.does t d o at k) = absurd (u o at)
-  once word old e e' n n' (ran.does s c o at h) (ran.idle t k j) = clash (is_stopped old.regs) t s
-  once word old e e' n n' (ran.does s c o at h) (ran.unfetched t d k) = clash (can_fetch old.memory old.regs) c d
-  once word old e e' n n' (ran.does s c o at h) (ran.unspelled t d u k) = absurd (u o at)
-  once word old e e' n n' (ran.does s c o at h) (ran.does t d p to k) =
+  once word old e e' n n' (chip_step.idle s h i) (chip_step.idle t k j) = (h ∙ sym k, i ∙ sym j)
+  once word old e e' n n' (chip_step.idle s h i) (chip_step.unfetched t c k) = clash (is_stopped old.regs) s t
+  once word old e e' n n' (chip_step.idle s h i) (chip_step.unspelled t c u k) = clash (is_stopped old.regs) s t
+  once word old e e' n n' (chip_step.idle s h i) (chip_step.does t c o at k) = clash (is_stopped old.regs) s t
+  once word old e e' n n' (chip_step.unfetched s c h) (chip_step.idle t k j) = clash (is_stopped old.regs) t s
+  once word old e e' n n' (chip_step.unfetched s c h) (chip_step.unfetched t d k) = stops _ old e e' n n' h k
+  once word old e e' n n' (chip_step.unfetched s c h) (chip_step.unspelled t d u k) = clash (can_fetch old.memory old.regs) d c
+  once word old e e' n n' (chip_step.unfetched s c h) (chip_step.does t d o at k) = clash (can_fetch old.memory old.regs) d c
+  once word old e e' n n' (chip_step.unspelled s c u h) (chip_step.idle t k j) = clash (is_stopped old.regs) t s
+  once word old e e' n n' (chip_step.unspelled s c u h) (chip_step.unfetched t d k) = clash (can_fetch old.memory old.regs) c d
+  once word old e e' n n' (chip_step.unspelled s c u h) (chip_step.unspelled t d v k) = stops _ (after_fetch old) e e' n n' h k
+  once word old e e' n n' (chip_step.unspelled s c u h) (chip_step.does t d o at k) = absurd (u o at)
+  once word old e e' n n' (chip_step.does s c o at h) (chip_step.idle t k j) = clash (is_stopped old.regs) t s
+  once word old e e' n n' (chip_step.does s c o at h) (chip_step.unfetched t d k) = clash (can_fetch old.memory old.regs) c d
+  once word old e e' n n' (chip_step.does s c o at h) (chip_step.unspelled t d u k) = absurd (u o at)
+  once word old e e' n n' (chip_step.does s c o at h) (chip_step.does t d p to k) =
       does word o old (after_fetch old) e e' n n' h (subst (λ (x : Op). Does moves word x old (after_fetch old) e' n') (one_spelling (word_at old.memory old.regs.dsp) (word_at old.memory (old.regs.dsp + 4)) (third_at old.memory old.regs) p o to at) k)

@@ -25,8 +25,8 @@ use Rattle.chip_step.specs.Connection.{with_table, WaitsAt, ReselectsBy, Settles
 use Rattle.chip_step.specs.Transfers.{TransfersAt, Transfers}
 use Rattle.chip_step.specs.Memory.{filled, stored, copied, LoadsAt, StoresAt}
 use Rattle.chip_step.specs.Instructions.{Does}
-use Rattle.chip_step.specs.Step as ran
-use Rattle.chip_step.specs.Step.{Ran, IsAt, after_fetch, can_fetch, third_at, len_of, has_third, fetched}
+use Rattle.chip_step.specs.Step as chip_step
+use Rattle.chip_step.specs.Step.{ChipStep, IsAt, after_fetch, can_fetch, third_at, len_of, has_third, fetched}
 use Rattle.chip_step.specs.declared.scsi_bus.Settled.{Settled}
 use Rattle.chip_step.specs.declared.scsi_bus.Settled.TheVariants.{Selected, Reselected, TimedOut}
 use Rattle.chip_step.specs.declared.outcome.StepEnd.{StepEnd}
@@ -433,18 +433,18 @@ reads_fetched _ old left = refl
 
 module _ {B : Type 0} (moves : B → Event → B → Type 0) where
   pub reads_within : ReadsWithin moves
-  reads_within word old end new x n at (ran.idle s e q) same = (n, ran.idle s e (ap (λ (c : Chip B). with_memory n c) q), alike_still old.memory n new.memory n (ap (λ (c : Chip B). c.memory) q) refl)
-  reads_within word old end new x n at (ran.unfetched s c h) same =
+  reads_within word old end new x n at (chip_step.idle s e q) same = (n, chip_step.idle s e (ap (λ (c : Chip B). with_memory n c) q), alike_still old.memory n new.memory n (ap (λ (c : Chip B). c.memory) q) refl)
+  reads_within word old end new x n at (chip_step.unfetched s c h) same =
       let f = left_of (fetches old) (reads x old new.regs.dbc) old.memory n same in
       let t = stops old end new n _ h in
-      (t.0, ran.unfetched s (can_same old n f ∙ c) t.1, t.2)
-  reads_within word old end new x n at (ran.unspelled s c none h) same = absurd (none x at)
-  reads_within word old end new x n at (ran.does s c o there h) same =
+      (t.0, chip_step.unfetched s (can_same old n f ∙ c) t.1, t.2)
+  reads_within word old end new x n at (chip_step.unspelled s c none h) same = absurd (none x at)
+  reads_within word old end new x n at (chip_step.does s c o there h) same =
       let f = left_of (fetches old) (reads x old new.regs.dbc) old.memory n same in
       let e : x ≡ o = one_spelling (word_at old.memory old.regs.dsp) (word_at old.memory (old.regs.dsp + 4)) (third_at old.memory old.regs) x o at there in
       let r : SameWithin (reads o (after_fetch old) new.regs.dbc) old.memory n = subst (λ (l : List Range). SameWithin l old.memory n) (ap (λ (y : Op). reads y old new.regs.dbc) e ∙ reads_fetched o old new.regs.dbc) (right_of (fetches old) (reads x old new.regs.dbc) old.memory n same) in
       let t = does_too moves word o old (after_fetch old) end new n refl r h in
-      (t.0, ran.does s (can_same old n f ∙ c) o (at_same old n f o there) (subst (λ (c : Chip B). Does moves word o (with_memory n old) c end (with_memory t.0 new)) (sym (fetched_same old n f)) t.1), t.2)
+      (t.0, chip_step.does s (can_same old n f ∙ c) o (at_same old n f o there) (subst (λ (c : Chip B). Does moves word o (with_memory n old) c end (with_memory t.0 new)) (sym (fetched_same old n f)) t.1), t.2)
 
   -- what it writes is a part of what it touches
   pub stays_within : StaysWithin moves

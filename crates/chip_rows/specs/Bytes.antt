@@ -4,7 +4,7 @@ use Rattle.bench_words.specs.Bytes.{IsBytes}
 use Rattle.chip_regs.specs.Bytes.{HasBytes}
 use Rattle.chip_step.specs.Event.{Event, ByteIn, Select, Reselect}
 use Rattle.chip_step.specs.Chip.{Chip}
-use Rattle.chip_step.specs.Step.{Ran}
+use Rattle.chip_step.specs.Step.{ChipStep}
 use Rattle.chip_step.specs.declared.outcome.StepEnd.{StepEnd}
 use Rattle.chip_step.specs.declared.scsi_bus.Settled.TheVariants.{Reselected}
 
@@ -21,4 +21,4 @@ pub record IsOfBytes {B : Type 0} (chip : Chip B) : Type 0 where
 
 -- a step keeps it
 abbrev pub StepsKeepBytes : {B : Type 0} → (B → Event → B → Type 0) → Type 0
-StepsKeepBytes {B} moves = (word : ℕ) (old : Chip B) (end : StepEnd) (new : Chip B) → IsOfBytes old → Ran moves word old end new → IsOfBytes new
+StepsKeepBytes {B} moves = (word : ℕ) (old : Chip B) (end : StepEnd) (new : Chip B) → IsOfBytes old → ChipStep moves word old end new → IsOfBytes new

@@ -6,7 +6,7 @@ use Rattle.chip_regs.specs.declared.registers.Cause.{Cause}
 use Rattle.chip_regs.specs.declared.registers.Cause.TheVariants.{Ma}
 use Rattle.chip_step.specs.Event.{Event}
 use Rattle.chip_step.specs.Chip.{Chip}
-use Rattle.chip_step.specs.Step.{Ran as Steps, IsAt, can_fetch}
+use Rattle.chip_step.specs.Step.{ChipStep as Steps, IsAt, can_fetch}
 use Rattle.chip_step.specs.declared.outcome.StepEnd.{StepEnd}
 use Rattle.chip_step.specs.declared.outcome.StepEnd.TheVariants.{Ran, Stopped}
 use Rattle.chip_rows.specs.Touched.{Range, Block, IsIn, block_of, writes, touched}

@@ -3,7 +3,7 @@ use Rattle.std.specs.Prelude.{◌≡◌, ℕ, List, ◌++◌, length, slice_inde
 use Rattle.scripts_ops.specs.declared.values.Op.{Op}
 use Rattle.chip_step.specs.Event.{Event}
 use Rattle.chip_step.specs.Chip.{Chip, state}
-use Rattle.chip_step.specs.Step.{Ran, IsAt}
+use Rattle.chip_step.specs.Step.{ChipStep, IsAt}
 use Rattle.chip_step.specs.declared.outcome.StepEnd.{StepEnd}
 use Rattle.chip_rows.specs.Touched.{Range, IsIn, fetches, reads}
 
@@ -24,7 +24,7 @@ with_memory memory chip = state memory chip.regs chip.bus
 -- the same end, registers and bus, and the same bytes written.
 abbrev pub ReadsWithin : {B : Type 0} → (B → Event → B → Type 0) → Type 0
 ReadsWithin {B} moves =
-    (word : ℕ) (old : Chip B) (end : StepEnd) (new : Chip B) (op : Op) (memory : List ℕ) → IsAt old op → Ran moves word old end new
+    (word : ℕ) (old : Chip B) (end : StepEnd) (new : Chip B) (op : Op) (memory : List ℕ) → IsAt old op → ChipStep moves word old end new
     → SameWithin (fetches old ++ reads op old new.regs.dbc) old.memory memory
-    → (memory' : List ℕ) × Ran moves word (with_memory memory old) end (with_memory memory' new)
+    → (memory' : List ℕ) × ChipStep moves word (with_memory memory old) end (with_memory memory' new)
     × ChangesAlike old.memory new.memory memory memory'

@@ -19,7 +19,7 @@ use Rattle.chip_step.specs.Connection.{Waits, Selects, SelectsBy, SettlesAs, Res
 use Rattle.chip_step.specs.Transfers.{Transfers, TransfersAt}
 use Rattle.chip_step.specs.Memory.{LoadsAt, StoresAt, Copies, copied}
 use Rattle.chip_step.specs.Instructions.{Does}
-use Rattle.chip_step.specs.Step.{Ran, idle, unfetched, unspelled, does, after_fetch}
+use Rattle.chip_step.specs.Step.{ChipStep, idle, unfetched, unspelled, does, after_fetch}
 use Rattle.chip_step.specs.declared.scsi_bus.Settled.{Settled}
 use Rattle.chip_step.specs.declared.scsi_bus.Settled.TheVariants.{Selected, Reselected, TimedOut}
 use Rattle.chip_step.specs.declared.outcome.StepEnd.{StepEnd}
@@ -255,8 +255,8 @@ module _ {B : Type 0} (moves : B → Event → B → Type 0) (word : ℕ) where
       (λ x. stops Iid old end new x h)
 
   -- a step that stops leaves its cause in the registers
-  pub Ran-stops : (old : Chip B) (end : StepEnd) (new : Chip B) → Ran moves word old end new → Stopping end new
-  Ran-stops old end new (idle s e q) = rests end new e
-  Ran-stops old end new (unfetched s c t) = stops Bf old end new t s
-  Ran-stops old end new (unspelled s c n t) = stops Iid (after_fetch old) end new t s
-  Ran-stops old end new (does s c op at d) = Does-stops op old (after_fetch old) end new d s
+  pub ChipStep-stops : (old : Chip B) (end : StepEnd) (new : Chip B) → ChipStep moves word old end new → Stopping end new
+  ChipStep-stops old end new (idle s e q) = rests end new e
+  ChipStep-stops old end new (unfetched s c t) = stops Bf old end new t s
+  ChipStep-stops old end new (unspelled s c n t) = stops Iid (after_fetch old) end new t s
+  ChipStep-stops old end new (does s c op at d) = Does-stops op old (after_fetch old) end new d s

@@ -9,7 +9,7 @@ use Rattle.chip_regs.specs.Registers.{is_stopped}
 use Rattle.chip_step.specs.Event.{Event}
 use Rattle.chip_step.specs.Chip.{Chip}
 use Rattle.chip_step.specs.Instructions.{Does}
-use Rattle.chip_step.specs.Step.{Ran, idle, unfetched, unspelled, does, IsAt, after_fetch, third_at, can_fetch}
+use Rattle.chip_step.specs.Step.{ChipStep, idle, unfetched, unspelled, does, IsAt, after_fetch, third_at, can_fetch}
 use Rattle.chip_step.specs.declared.outcome.StepEnd.{StepEnd}
 
 -- words spell one instruction
@@ -20,12 +20,12 @@ one_spelling w0 w1 w2 a b x y =
     cc
 
 -- A chip that runs, stands at a multiple of 4 in memory and has the words of an instruction there does what its row says.
-pub Ran-does : {B : Type 0} (moves : B → Event → B → Type 0) (word : ℕ) (old : Chip B) (end : StepEnd) (new : Chip B) (op : Op) →
-    is_stopped old.regs ≡ false → can_fetch old.memory old.regs ≡ true → IsAt old op → Ran moves word old end new →
+pub ChipStep-does : {B : Type 0} (moves : B → Event → B → Type 0) (word : ℕ) (old : Chip B) (end : StepEnd) (new : Chip B) (op : Op) →
+    is_stopped old.regs ≡ false → can_fetch old.memory old.regs ≡ true → IsAt old op → ChipStep moves word old end new →
     Does moves word op old (after_fetch old) end new
-Ran-does moves word old end new op r f at (idle s e q) = absurd cc
-Ran-does moves word old end new op r f at (unfetched s c t) = absurd cc
-Ran-does moves word old end new op r f at (unspelled s c n t) = absurd (n op at)
-Ran-does moves word old end new op r f at (does s c o there d) =
+ChipStep-does moves word old end new op r f at (idle s e q) = absurd cc
+ChipStep-does moves word old end new op r f at (unfetched s c t) = absurd cc
+ChipStep-does moves word old end new op r f at (unspelled s c n t) = absurd (n op at)
+ChipStep-does moves word old end new op r f at (does s c o there d) =
     let same : o ≡ op = one_spelling (word_at old.memory old.regs.dsp) (word_at old.memory (old.regs.dsp + 4)) (third_at old.memory old.regs) o op there at in
     rw same at d

@@ -44,15 +44,15 @@ IsAt old op =
     Spelled (word_at old.memory old.regs.dsp) (word_at old.memory (old.regs.dsp + 4)) (third_at old.memory old.regs) op
 
 -- From old a step with this word may end so, in new.
-pub data Ran {B : Type 0} (moves : B → Event → B → Type 0) (word : ℕ) (old : Chip B) (end : StepEnd) (new : Chip B) : Type 0 where
+pub data ChipStep {B : Type 0} (moves : B → Event → B → Type 0) (word : ℕ) (old : Chip B) (end : StepEnd) (new : Chip B) : Type 0 where
   -- a chip that is stopped is idle, and nothing changes
-  idle : is_stopped old.regs ≡ true → end ≡ Idle → new ≡ old → Ran moves word old end new
+  idle : is_stopped old.regs ≡ true → end ≡ Idle → new ≡ old → ChipStep moves word old end new
   -- the fetch leaves memory or isn't at a multiple of 4
-  unfetched : is_stopped old.regs ≡ false → can_fetch old.memory old.regs ≡ false → Stops Bf old end new → Ran moves word old end new
+  unfetched : is_stopped old.regs ≡ false → can_fetch old.memory old.regs ≡ false → Stops Bf old end new → ChipStep moves word old end new
   -- no row spells the words
-  unspelled : is_stopped old.regs ≡ false → can_fetch old.memory old.regs ≡ true → ((op : Op) → IsAt old op → ⊥) → Stops Iid (after_fetch old) end new → Ran moves word old end new
+  unspelled : is_stopped old.regs ≡ false → can_fetch old.memory old.regs ≡ true → ((op : Op) → IsAt old op → ⊥) → Stops Iid (after_fetch old) end new → ChipStep moves word old end new
   -- a row does
-  does : is_stopped old.regs ≡ false → can_fetch old.memory old.regs ≡ true → (op : Op) → IsAt old op → Does moves word op old (after_fetch old) end new → Ran moves word old end new
+  does : is_stopped old.regs ≡ false → can_fetch old.memory old.regs ≡ true → (op : Op) → IsAt old op → Does moves word op old (after_fetch old) end new → ChipStep moves word old end new
 
 -- WAIT RESELECT, which nobody ends
 pub record IsWaiting {B : Type 0} (moves : B → Event → B → Type 0) (word : ℕ) (op : Op) (old : Chip B) : Type 0 where

@@ -6,7 +6,7 @@ ghost use Rattle.scripts_ops.specs.Table.{row};
 ghost use Rattle.chip_regs.specs.Registers.{is_stopped};
 ghost use Rattle.chip_step.specs.Chip.{state};
 ghost use Rattle.chip_step.specs.Instructions.{Does};
-ghost use Rattle.chip_step.specs.Step.{Ran, Rests, IsWaiting, can_fetch, has_third, len_of, third_at};
+ghost use Rattle.chip_step.specs.Step.{ChipStep, Rests, IsWaiting, can_fetch, has_third, len_of, third_at};
 
 use crate::block::{move_direct, move_from};
 use crate::connection::{clear, select, set, wait_disconnect, wait_reselect};
@@ -158,7 +158,7 @@ fn execute<B: Bus>(
 /// `Idle` comes exactly where the chip is stopped, or stands at WAIT RESELECT without a connection and without SIGP
 /// and nobody reselects; then nothing has changed. `Stopped` carries the cause that this step stops for.
 pub fn step<B: Bus>(words: &mut Words, regs: &mut Regs, bus: &mut B, word: u32) -> StepEnd
-    ensures does { Ran B.moves word (state words.old regs.old bus.old) result (state words.new regs.new bus.new) }
+    ensures does { ChipStep B.moves word (state words.old regs.old bus.old) result (state words.new regs.new bus.new) }
     ensures size { length words.new ≡ length words.old }
     ensures stopped { is_stopped regs.old ≡ true → result ≡ StepEnd.Idle }
     ensures idle { result ≡ StepEnd.Idle → Rests B.moves word (state words.old regs.old bus.old)

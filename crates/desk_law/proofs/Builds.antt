@@ -1,7 +1,7 @@
 -- A request has one reason to be refused or makes one desk, and so has a ticket that is freed.
 use Rattle.std.proofs.Common.{◌≡◌, ℕ, Bool, true, false, List, [], ◌∷◌, Option, Some, None, sym, ap, subst, ◌∙◌}
 use Rattle.rig_types.specs.declared.step.Line.{Line}
-use Rattle.unit_law.specs.Request.{PlainRequest}
+use Rattle.unit_law.specs.Request.{RequestData}
 use Rattle.dma_buddy.specs.declared.buddies.Chunk.{Chunk}
 use Rattle.dma_buddy.specs.Regions.{Space}
 use Rattle.dma_buddy.proofs.OneRegion.{one-take-all, one-give}
@@ -26,7 +26,7 @@ both-ways : {R : Type 0} (b : Bool) → b ≡ true → b ≡ false → R
 both-ways true h k = absurd cc
 both-ways false h k = absurd cc
 
-pub refuses_for_one : (d : DeskState) (r : PlainRequest) (a b : Refused) → Refuses d r a → Refuses d r b → a ≡ b
+pub refuses_for_one : (d : DeskState) (r : RequestData) (a b : Refused) → Refuses d r a → Refuses d r b → a ≡ b
 refuses_for_one d r (BadRequest a) (BadRequest b) h k = ap (λ (x : Kind). BadRequest x) (one-kind _ a b h k)
 refuses_for_one d r (BadRequest a) (LunFull b) h k = no-kind _ a h k.0
 refuses_for_one d r (BadRequest a) (RegionFull b) h k = no-kind _ a h k.0
@@ -37,12 +37,12 @@ refuses_for_one d r (RegionFull a) (BadRequest b) h k = no-kind _ b k h.0
 refuses_for_one d r (RegionFull a) (LunFull b) h k = both-ways _ k.1 h.1
 refuses_for_one d r (RegionFull a) (RegionFull b) h k = ap (λ (x : ℕ). RegionFull x) ((one-take-all d.space r.segments).refused a b h.2 k.2)
 
-pub refuses_or_builds : (d : DeskState) (m : List ℕ) (l : Line) (r : PlainRequest) (a : Refused) (t : ℕ) (new : DeskState) (m' : List ℕ) → Refuses d r a → Builds d m l r t new m' → ⊥
+pub refuses_or_builds : (d : DeskState) (m : List ℕ) (l : Line) (r : RequestData) (a : Refused) (t : ℕ) (new : DeskState) (m' : List ℕ) → Refuses d r a → Builds d m l r t new m' → ⊥
 refuses_or_builds d m l r (BadRequest a) t new m' h b = no-kind _ a h b.sound
 refuses_or_builds d m l r (LunFull a) t new m' h b = both-ways _ h.1 b.not_full
 refuses_or_builds d m l r (RegionFull a) t new m' h b = (one-take-all d.space r.segments).either b.chunks new.space a b.takes h.2
 
-pub builds_once : (d : DeskState) (m : List ℕ) (l : Line) (r : PlainRequest) (t u : ℕ) (new other : DeskState) (m' m'' : List ℕ) → Builds d m l r t new m' → Builds d m l r u other m''
+pub builds_once : (d : DeskState) (m : List ℕ) (l : Line) (r : RequestData) (t u : ℕ) (new other : DeskState) (m' m'' : List ℕ) → Builds d m l r t new m' → Builds d m l r u other m''
     → (t ≡ u) × (new ≡ other) × (m' ≡ m'')
 builds_once d m l r t u new other m' m'' h k =
     let e : (h.chunks ≡ k.chunks) × (new.space ≡ other.space) = (one-take-all d.space r.segments).one h.chunks k.chunks new.space other.space h.takes k.takes in

@@ -2,7 +2,7 @@
 use Rattle.std.specs.Prelude.{◌≡◌, ℕ, ◌*◌, ◌==◌, not, if◌then◌else◌, Bool, false, List, [], ◌∷◌, ◌++◌, length, map, zip, find, None, unwrap_or}
 use Rattle.std.specs.List.{range_with_len, list_any}
 use Rattle.rig_types.specs.declared.step.Line.{Line}
-use Rattle.unit_law.specs.Request.{PlainRequest}
+use Rattle.unit_law.specs.Request.{RequestData}
 use Rattle.host_map.specs.declared.TheConstants.{BLOCK_COUNT}
 use Rattle.host_map.specs.Places.{block_at}
 use Rattle.dma_buddy.specs.declared.buddies.Chunk.{Chunk}
@@ -33,7 +33,7 @@ free_tag d u = first_free (λ (tag : ℕ). list_any (has_tag u tag) d.tickets) (
 abbrev pub piece : Chunk × ℕ → Piece
 piece x = record { chunk = x.0; len = x.1 }
 
-abbrev pub new_ticket : DeskState → Line → PlainRequest → List Chunk → Ticket
+abbrev pub new_ticket : DeskState → Line → RequestData → List Chunk → Ticket
 new_ticket d l r chunks = record {
   line = l;
   unit = r.unit;
@@ -53,11 +53,11 @@ abbrev pub desk_built : DeskState → Ticket → DeskState
 desk_built d k = record d { tickets = d.tickets ++ k ∷ [] }
 
 -- memory with its block and the bytes that were submitted
-abbrev pub memory_built : DeskState → List ℕ → Ticket → PlainRequest → List ℕ
+abbrev pub memory_built : DeskState → List ℕ → Ticket → RequestData → List ℕ
 memory_built d m k r = with_buffer (with_block m (unit d k.unit) k r.cdb) k.pieces r.bytes
 
 -- An accepted request: its chunks are taken in order, and its ticket's number is that of the tickets before it.
-pub record Builds (old : DeskState) (memory : List ℕ) (l : Line) (r : PlainRequest) (number : ℕ) (new : DeskState) (memory' : List ℕ) : Type 0 where
+pub record Builds (old : DeskState) (memory : List ℕ) (l : Line) (r : RequestData) (number : ℕ) (new : DeskState) (memory' : List ℕ) : Type 0 where
   pub sound : kind_of old.units r ≡ None
   pub not_full : is_full old r.unit ≡ false
   pub chunks : List Chunk

@@ -5,11 +5,11 @@ use Rattle.scsi_words.specs.declared.phases.kinds.Phase.TheVariants as phase
 use Rattle.chip_step.specs.Event.{Event, Phase, Shown, ByteIn, ByteOut, Select, Reselect, SetAtn, ClearAck, Leave}
 use Rattle.chip_step.specs.declared.scsi_bus.Settled.{Settled}
 use Rattle.target_law.specs.declared.nexus.Nexus.{Nexus}
-use Rattle.target_law.specs.declared.showing.Showing.{Showing}
-use Rattle.target_law.specs.declared.showing.Showing.TheVariants.{Choosing, Hearing, Sending, Receiving, Telling, Saying}
+use Rattle.target_law.specs.declared.task_phase.TaskPhase.{TaskPhase}
+use Rattle.target_law.specs.declared.task_phase.TaskPhase.TheVariants.{ToChoose, MessageOut, DataIn, DataOut, Status, MessageIn}
 use Rattle.target_law.specs.Session.{Task, began}
 use Rattle.target_law.specs.Bytes.{Connection, phase_of, byte_by, takes_by, sent_by}
-use Rattle.target_law.specs.Target.{LogicalUnit, Link, Free, Greeted, Commanded, Working, Straying, Target, unit_at, with_unit, on_unit, linked, unit_left}
+use Rattle.target_law.specs.Target.{LogicalUnit, ConnectionState, BusFree, Selected, TakingCommand, TaskConnected, RogueConnected, Target, unit_at, with_unit, on_unit, linked, unit_left}
 use Rattle.target_law.specs.Beginning.{begins_if, ticket_for, took_where, target_took}
 use Rattle.target_law.specs.Calls.{is_free, link_phase, nexus_of, whole_by, target_selected, target_acted, asked_by, link_byte, link_sent, sent_if, link_takes, link_took, target_messaged, target_acked, target_begun, begun, begun_with, begun_by, has_tag, has_ended}
 use Rattle.one_target.specs.Bus.{BusState, if_fits, with_room, become, live_ticket, taken_where, is_to_choose, SettlesWhere, LeavesBus, Acts, Chooses, ChoosesWhere, GoesOn, TurnsWhere, Turns, ack_by, ComesIn, StaysOut, SelectsWhere, is_message, messaged_where, after_atn, acked_where, moves}
@@ -28,58 +28,58 @@ pub held : (b : BusState) → IsKept b.target → lie_within b.target.units b.ro
 held b k f a = record { fits = f; alone = ap is_alone k.alone.units_are ∙ k.alone.usual; of_one = k.of_one; acknowledges = a }
 
 -- what is known while a message byte waits for ACK
-said-phase : (s : Showing) → is_said s ≡ true → phase_of s ≡ Some phase.MsgIn
-said-phase Choosing e = absurd cc
-said-phase Hearing e = absurd cc
-said-phase (Sending n) e = absurd cc
-said-phase (Receiving n) e = absurd cc
-said-phase (Telling v) e = absurd cc
-said-phase (Saying n sent) e = refl
+said-phase : (s : TaskPhase) → is_said s ≡ true → phase_of s ≡ Some phase.MsgIn
+said-phase ToChoose e = absurd cc
+said-phase MessageOut e = absurd cc
+said-phase (DataIn n) e = absurd cc
+said-phase (DataOut n) e = absurd cc
+said-phase (Status v) e = absurd cc
+said-phase (MessageIn n sent) e = refl
 
-said-byte : (s : Showing) (k : Task) (lun : ℕ) → is_said s ≡ true → byte_by s k lun ≡ None
-said-byte Choosing k lun e = absurd cc
-said-byte Hearing k lun e = absurd cc
-said-byte (Sending n) k lun e = absurd cc
-said-byte (Receiving n) k lun e = absurd cc
-said-byte (Telling v) k lun e = absurd cc
-said-byte (Saying n true) k lun e = refl
-said-byte (Saying n false) k lun e = absurd cc
+said-byte : (s : TaskPhase) (k : Task) (lun : ℕ) → is_said s ≡ true → byte_by s k lun ≡ None
+said-byte ToChoose k lun e = absurd cc
+said-byte MessageOut k lun e = absurd cc
+said-byte (DataIn n) k lun e = absurd cc
+said-byte (DataOut n) k lun e = absurd cc
+said-byte (Status v) k lun e = absurd cc
+said-byte (MessageIn n true) k lun e = refl
+said-byte (MessageIn n false) k lun e = absurd cc
 
-said-takes : (s : Showing) → is_said s ≡ true → takes_by s ≡ false
-said-takes Choosing e = absurd cc
-said-takes Hearing e = absurd cc
-said-takes (Sending n) e = absurd cc
-said-takes (Receiving n) e = absurd cc
-said-takes (Telling v) e = absurd cc
-said-takes (Saying n sent) e = refl
+said-takes : (s : TaskPhase) → is_said s ≡ true → takes_by s ≡ false
+said-takes ToChoose e = absurd cc
+said-takes MessageOut e = absurd cc
+said-takes (DataIn n) e = absurd cc
+said-takes (DataOut n) e = absurd cc
+said-takes (Status v) e = absurd cc
+said-takes (MessageIn n sent) e = refl
 
-pub record Waits (l : Link) : Type 0 where
+pub record Waits (l : ConnectionState) : Type 0 where
   pub bound : is_free l ≡ false
   pub phase : link_phase l ≡ Some phase.MsgIn
   pub takes : link_takes l ≡ false
   pub none : link_byte l ≡ None
 
-pub waits : (l : Link) → awaits_ack l ≡ true → Waits l
-waits (Working c) e = record { bound = refl; phase = said-phase c.shows e; takes = said-takes c.shows e; none = said-byte c.shows c.task c.lun e }
-waits Free e = absurd cc
-waits (Greeted heard) e = absurd cc
-waits (Commanded n taken) e = absurd cc
-waits (Straying s n) e = absurd cc
+pub waits : (l : ConnectionState) → awaits_ack l ≡ true → Waits l
+waits (TaskConnected c) e = record { bound = refl; phase = said-phase c.shows e; takes = said-takes c.shows e; none = said-byte c.shows c.task c.lun e }
+waits BusFree e = absurd cc
+waits (Selected heard) e = absurd cc
+waits (TakingCommand n taken) e = absurd cc
+waits (RogueConnected s n) e = absurd cc
 
-sent-said : (s : Showing) (c : Connection) → phase_of s ≡ Some phase.MsgIn → is_said (sent_by s c).shows ≡ true
-sent-said Choosing c e = absurd cc
-sent-said Hearing c e = absurd (let f : Some phase.MsgOut ≡ Some phase.MsgIn = e in cc)
-sent-said (Sending n) c e = absurd (let f : Some phase.DataIn ≡ Some phase.MsgIn = e in cc)
-sent-said (Receiving n) c e = absurd (let f : Some phase.DataOut ≡ Some phase.MsgIn = e in cc)
-sent-said (Telling v) c e = absurd (let f : Some phase.Status ≡ Some phase.MsgIn = e in cc)
-sent-said (Saying n sent) c e = refl
+sent-said : (s : TaskPhase) (c : Connection) → phase_of s ≡ Some phase.MsgIn → is_said (sent_by s c).shows ≡ true
+sent-said ToChoose c e = absurd cc
+sent-said MessageOut c e = absurd (let f : Some phase.MsgOut ≡ Some phase.MsgIn = e in cc)
+sent-said (DataIn n) c e = absurd (let f : Some phase.DataIn ≡ Some phase.MsgIn = e in cc)
+sent-said (DataOut n) c e = absurd (let f : Some phase.DataOut ≡ Some phase.MsgIn = e in cc)
+sent-said (Status v) c e = absurd (let f : Some phase.Status ≡ Some phase.MsgIn = e in cc)
+sent-said (MessageIn n sent) c e = refl
 
-sent-awaits : (l : Link) → is_of_one l ≡ true → link_phase l ≡ Some phase.MsgIn → awaits_ack (link_sent l) ≡ true
-sent-awaits (Working c) o e = sent-said c.shows c e
-sent-awaits Free o e = absurd cc
-sent-awaits (Greeted heard) o e = absurd (let f : Some phase.MsgOut ≡ Some phase.MsgIn = e in cc)
-sent-awaits (Commanded n taken) o e = absurd (let f : Some phase.Command ≡ Some phase.MsgIn = e in cc)
-sent-awaits (Straying s n) o e = absurd cc
+sent-awaits : (l : ConnectionState) → is_of_one l ≡ true → link_phase l ≡ Some phase.MsgIn → awaits_ack (link_sent l) ≡ true
+sent-awaits (TaskConnected c) o e = sent-said c.shows c e
+sent-awaits BusFree o e = absurd cc
+sent-awaits (Selected heard) o e = absurd (let f : Some phase.MsgOut ≡ Some phase.MsgIn = e in cc)
+sent-awaits (TakingCommand n taken) o e = absurd (let f : Some phase.Command ≡ Some phase.MsgIn = e in cc)
+sent-awaits (RogueConnected s n) o e = absurd cc
 
 -- a byte is taken, and a task may begin
 kept-begins : (live : Nexus → Option ℕ) (whole : Bool) (t : Target) → IsKept t → IsKept (begins_if live whole t)
@@ -151,38 +151,38 @@ acts-left rooms word t t' c k a =
     let l : Left after t' rooms = settles-left (is_to_choose after.link) after t' rooms (kept-with_room rooms t (target_acted t a.move) k (kept-acted t a.move k)) a.after in
     record { kept = l.kept; fits = λ f. l.fits (with_room-fits rooms t (target_acted t a.move) f) }
 
-chooses-left : (l : Link) (atn : Bool) (rooms : List ℕ) (word : ℕ) (t t' : Target) → is_of_one l ≡ true → IsKept t → Chooses l atn rooms word t t' → Left t t' rooms
-chooses-left (Working c) true rooms word t t' e k m = record { kept = subst IsKept (sym m) (kept-linked t (asked_by (Working c)) e k); fits = λ f. ap (λ (x : Target). lie_within x.units rooms) m ∙ f }
-chooses-left (Working c) false rooms word t t' e k m = acts-left rooms word t t' c k m
-chooses-left Free atn rooms word t t' e k m = absurd m
-chooses-left (Greeted heard) atn rooms word t t' e k m = absurd m
-chooses-left (Commanded n taken) atn rooms word t t' e k m = absurd m
-chooses-left (Straying s n) atn rooms word t t' e k m = absurd m
+chooses-left : (l : ConnectionState) (atn : Bool) (rooms : List ℕ) (word : ℕ) (t t' : Target) → is_of_one l ≡ true → IsKept t → Chooses l atn rooms word t t' → Left t t' rooms
+chooses-left (TaskConnected c) true rooms word t t' e k m = record { kept = subst IsKept (sym m) (kept-linked t (asked_by (TaskConnected c)) e k); fits = λ f. ap (λ (x : Target). lie_within x.units rooms) m ∙ f }
+chooses-left (TaskConnected c) false rooms word t t' e k m = acts-left rooms word t t' c k m
+chooses-left BusFree atn rooms word t t' e k m = absurd m
+chooses-left (Selected heard) atn rooms word t t' e k m = absurd m
+chooses-left (TakingCommand n taken) atn rooms word t t' e k m = absurd m
+chooses-left (RogueConnected s n) atn rooms word t t' e k m = absurd m
 
 chooses_where-left : (to_choose atn : Bool) (rooms : List ℕ) (word : ℕ) (t t' : Target) → IsKept t → ChoosesWhere to_choose atn rooms word t t' → Left t t' rooms
 chooses_where-left true atn rooms word t t' k m = chooses-left t.link atn rooms word t t' k.of_one k m
 chooses_where-left false atn rooms word t t' k m = record { kept = subst IsKept (sym m) k; fits = λ f. ap (λ (x : Target). lie_within x.units rooms) m ∙ f }
 
 -- a task that begins changes no unit
-begun_if-units : (refused : Bool) (t : Target) (l : Link) → (if refused then linked t Free else linked t l).units ≡ t.units
+begun_if-units : (refused : Bool) (t : Target) (l : ConnectionState) → (if refused then linked t BusFree else linked t l).units ≡ t.units
 begun_if-units true t l = refl
 begun_if-units false t l = refl
 
 begun_at-units : (o : Option LogicalUnit) (t : Target) (n : Nexus) (c : Cdb) (ticket : ℕ) → (on_unit o (λ u. begun t n c u ticket) t).units ≡ t.units
 begun_at-units None t n c ticket = refl
 begun_at-units (Some u) t n c ticket = begun_if-units (has_tag u.tasks n.tag || nat_lt 65536 (need_of c).bytes) t
-    (Working (record { lun = n.lun; reselected = false; heard = []; task = began n.tag ticket c u.rig.disconnects (has_ended u.log ticket); shows = Choosing }))
+    (TaskConnected (record { lun = n.lun; reselected = false; heard = []; task = began n.tag ticket c u.rig.disconnects (has_ended u.log ticket); shows = ToChoose }))
 
 begun_with-units : (o : Option ℕ) (t : Target) (n : Nexus) (c : Cdb) → (begun_with t n c o).units ≡ t.units
 begun_with-units None t n c = refl
 begun_with-units (Some ticket) t n c = begun_at-units (unit_at t.units n.lun) t n c ticket
 
-begun_by-units : (l : Link) (t : Target) (o : Option ℕ) → (begun_by l t o).units ≡ t.units
-begun_by-units Free t o = refl
-begun_by-units (Greeted heard) t o = refl
-begun_by-units (Commanded n taken) t o = begun_with-units o t n (cdb_of taken)
-begun_by-units (Working c) t o = refl
-begun_by-units (Straying s n) t o = refl
+begun_by-units : (l : ConnectionState) (t : Target) (o : Option ℕ) → (begun_by l t o).units ≡ t.units
+begun_by-units BusFree t o = refl
+begun_by-units (Selected heard) t o = refl
+begun_by-units (TakingCommand n taken) t o = begun_with-units o t n (cdb_of taken)
+begun_by-units (TaskConnected c) t o = refl
+begun_by-units (RogueConnected s n) t o = refl
 
 begun-units : (t : Target) (o : Option ℕ) → (target_begun t o).units ≡ t.units
 unfolding target_begun
@@ -239,7 +239,7 @@ ack-cases (Some x) (Some phase.Command) a e = inl e
 ack-cases (Some x) (Some phase.Status) a e = inl e
 ack-cases (Some x) (Some phase.MsgOut) a e = inl e
 
-comes-awaits : (o : Option ℕ) (l : Link) (a : Bool) → o ≡ link_byte l → is_of_one l ≡ true → (a ≡ true → awaits_ack l ≡ true) → ack_by o (link_phase l) a ≡ true → awaits_ack (sent_if o l) ≡ true
+comes-awaits : (o : Option ℕ) (l : ConnectionState) (a : Bool) → o ≡ link_byte l → is_of_one l ≡ true → (a ≡ true → awaits_ack l ≡ true) → ack_by o (link_phase l) a ≡ true → awaits_ack (sent_if o l) ≡ true
 comes-awaits o l a same one w e = elim (ack-cases o (link_phase l) a e) [
   | inl x ↦ ap (λ (p : Option ℕ). awaits_ack (sent_if p l)) (same ∙ (waits l (w x)).none) ∙ w x
   | inr x ↦ ap (λ (p : Option ℕ). awaits_ack (sent_if p l)) x.0.1 ∙ sent-awaits l one x.1

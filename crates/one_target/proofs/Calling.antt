@@ -6,9 +6,10 @@ use Rattle.rig_types.specs.declared.rig.Unit.{Unit as RigUnit}
 use Rattle.target_law.specs.declared.moves.Move.{Move}
 use Rattle.target_law.specs.declared.nexus.Nexus.{Nexus}
 use Rattle.target_law.specs.Bytes.{Connection}
-use Rattle.target_law.specs.Target.{LogicalUnit, Link, Free, Greeted, Commanded, Working, Straying, Target, unit_at, linked, leaves}
+use Rattle.target_law.specs.Target as connection_state
+use Rattle.target_law.specs.Target.{LogicalUnit, ConnectionState, BusFree, TakingCommand, TaskConnected, RogueConnected, Target, unit_at, linked, leaves}
 use Rattle.target_law.specs.Beginning.{has_place, where_placed, begins_if, took_where, target_took}
-use Rattle.target_law.specs.Calls.{is_free, link_phase, nexus_of, is_whole, target_begun, link_takes, is_straying, is_absent, answers, target_selected, target_acted, asked_by, target_messaged, target_acked}
+use Rattle.target_law.specs.Calls.{is_free, link_phase, nexus_of, is_whole, target_begun, link_takes, is_rogue_connected, is_absent, answers, target_selected, target_acted, asked_by, target_messaged, target_acked}
 use Rattle.target_law.specs.Lawful.{IsThere, Named, NamesOf}
 use Rattle.target_law.specs.Devices.{DeviceState, lie_within, where_room}
 use Rattle.scsi_target.specs.Devices.{IsPresent}
@@ -26,15 +27,15 @@ unit-there : (t : Target) (k : IsKept t) → unit_at t.units 0 ≡ Some k.alone.
 unit-there t k = ap (λ (us : List (Option LogicalUnit)). unit_at us 0) k.alone.units_are ∙ unit_at-slots k.alone.unit
 
 -- no units that break the rules are connected
-straying-none : (l : Link) → is_of_one l ≡ true → is_straying l ≡ false
-straying-none Free e = refl
-straying-none (Greeted heard) e = refl
-straying-none (Commanded n taken) e = refl
-straying-none (Working c) e = refl
-straying-none (Straying s n) e = absurd cc
+rogue_connected-none : (l : ConnectionState) → is_of_one l ≡ true → is_rogue_connected l ≡ false
+rogue_connected-none BusFree e = refl
+rogue_connected-none (connection_state.Selected heard) e = refl
+rogue_connected-none (TakingCommand n taken) e = refl
+rogue_connected-none (TaskConnected c) e = refl
+rogue_connected-none (RogueConnected s n) e = absurd cc
 
-pub lawful-link : (d : DeviceState) → IsHeldDevice d → is_straying d.target.link ≡ false
-lawful-link d h = straying-none d.target.link h.of_one
+pub lawful-link : (d : DeviceState) → IsHeldDevice d → is_rogue_connected d.target.link ≡ false
+lawful-link d h = rogue_connected-none d.target.link h.of_one
 
 -- a call whose entries may not fit
 room-by : (fits : Bool) (d : DeviceState) (t : Target) → (if fits then record { target = t; rooms = d.rooms } else d) ≡ record { target = if_fits fits d.target t; rooms = d.rooms }
@@ -57,46 +58,46 @@ there-of : (o : Option LogicalUnit) (P : LogicalUnit → Type 0) → IsThere o P
 there-of (Some u) P p = (u, refl, p)
 there-of None P p = absurd p
 
-unit-of-task : (t : Target) (c : Connection) → IsKept t → t.link ≡ Working c → (u : LogicalUnit) × (unit_at t.units c.lun ≡ Some u)
+unit-of-task : (t : Target) (c : Connection) → IsKept t → t.link ≡ TaskConnected c → (u : LogicalUnit) × (unit_at t.units c.lun ≡ Some u)
 unit-of-task t c k e =
     let one : c.lun == 0 ≡ true = ap is_of_one (sym e) ∙ k.of_one in
     let z : c.lun ≡ 0 = zero-of c.lun one in
     (k.alone.unit, ap (λ (x : ℕ). unit_at t.units x) z ∙ unit-there t k)
 
-messaged-leaves : (t : Target) (c : Connection) (u : LogicalUnit) → unit_at t.units c.lun ≡ Some u → target_messaged (record { units = t.units; link = asked_by (Working c) }) ≡ leaves t c u
+messaged-leaves : (t : Target) (c : Connection) (u : LogicalUnit) → unit_at t.units c.lun ≡ Some u → target_messaged (record { units = t.units; link = asked_by (TaskConnected c) }) ≡ leaves t c u
 unfolding target_messaged
 messaged-leaves t c u e = rw e refl
 
-pub leaving : (l : Link) (d : DeviceState) → d.target.link ≡ l → is_to_choose l ≡ true → IsHeldDevice d →
+pub leaving : (l : ConnectionState) (d : DeviceState) → d.target.link ≡ l → is_to_choose l ≡ true → IsHeldDevice d →
     LeavesBus d.target (where_room (record { target = linked d.target (asked_by d.target.link); rooms = d.rooms }) (target_messaged (linked d.target (asked_by d.target.link)))).target
-leaving (Working c) d e f h =
+leaving (TaskConnected c) d e f h =
     let t : Target = d.target in
     let asked : DeviceState = record { target = linked t (asked_by t.link); rooms = d.rooms } in
     let k : IsKept t = kept-device d h in
     let u : (x : LogicalUnit) × (unit_at t.units c.lun ≡ Some x) = unit-of-task t c k e in
-    let after : target_messaged (linked t (asked_by t.link)) ≡ leaves t c u.0 = ap (λ (x : Link). target_messaged (linked t (asked_by x))) e ∙ messaged-leaves t c u.0 u.1 in
+    let after : target_messaged (linked t (asked_by t.link)) ≡ leaves t c u.0 = ap (λ (x : ConnectionState). target_messaged (linked t (asked_by x))) e ∙ messaged-leaves t c u.0 u.1 in
     let l : Left t (leaves t c u.0) d.rooms = left-is t (leaves t c u.0) d.rooms k (record { connection = c; working = e; unit = u.0; unit_is = u.1; left = refl }) in
     let fits : lie_within (leaves t c u.0).units d.rooms ≡ true = l.fits h.fits in
     let is : (where_room asked (target_messaged asked.target)).target ≡ leaves t c u.0 =
     ap (λ (x : DeviceState). x.target) (where_room-is asked (target_messaged asked.target)) ∙ ap (λ (x : Target). with_room d.rooms asked.target x) after ∙ ap (λ (x : Bool). if_fits x asked.target (leaves t c u.0)) fits in
     record { connection = c; working = e; unit = u.0; unit_is = u.1; left = is }
-leaving Free d e f h = absurd cc
-leaving (Greeted heard) d e f h = absurd cc
-leaving (Commanded n taken) d e f h = absurd cc
-leaving (Straying s n) d e f h = absurd (let g : is_of_one (Straying s n) ≡ true = ap is_of_one (sym e) ∙ h.of_one in cc)
+leaving BusFree d e f h = absurd cc
+leaving (connection_state.Selected heard) d e f h = absurd cc
+leaving (TakingCommand n taken) d e f h = absurd cc
+leaving (RogueConnected s n) d e f h = absurd (let g : is_of_one (RogueConnected s n) ≡ true = ap is_of_one (sym e) ∙ h.of_one in cc)
 
 -- the move of a target that is to choose
-pub acting : (l : Link) (d : DeviceState) (word : ℕ) (m : Move) (t' : Target) → d.target.link ≡ l → is_to_choose l ≡ true → IsHeldDevice d → Named d.target word m →
+pub acting : (l : ConnectionState) (d : DeviceState) (word : ℕ) (m : Move) (t' : Target) → d.target.link ≡ l → is_to_choose l ≡ true → IsHeldDevice d → Named d.target word m →
     Settles (where_room d (target_acted d.target m)).target t' → ActsAt l d.rooms word d.target t'
-acting (Working c) d word m t' e f h named s =
+acting (TaskConnected c) d word m t' e f h named s =
     let n : IsThere (unit_at d.target.units c.lun) (λ u. NamesOf u c word m) = rw e at named in
     let u : (x : LogicalUnit) × (unit_at d.target.units c.lun ≡ Some x) × NamesOf x c word m = there-of (unit_at d.target.units c.lun) (λ x. NamesOf x c word m) n in
     let after : Settles (with_room d.rooms d.target (target_acted d.target m)) t' = subst (λ (x : DeviceState). Settles x.target t') (where_room-is d (target_acted d.target m)) s in
     record { unit = u.0; unit_is = u.1; move = m; named = u.2; after = after }
-acting Free d word m t' e f h named s = absurd cc
-acting (Greeted heard) d word m t' e f h named s = absurd cc
-acting (Commanded n taken) d word m t' e f h named s = absurd cc
-acting (Straying s n) d word m t' e f h named o = absurd (let g : is_of_one (Straying s n) ≡ true = ap is_of_one (sym e) ∙ h.of_one in cc)
+acting BusFree d word m t' e f h named s = absurd cc
+acting (connection_state.Selected heard) d word m t' e f h named s = absurd cc
+acting (TakingCommand n taken) d word m t' e f h named s = absurd cc
+acting (RogueConnected s n) d word m t' e f h named o = absurd (let g : is_of_one (RogueConnected s n) ≡ true = ap is_of_one (sym e) ∙ h.of_one in cc)
 
 settles-by : (to_choose : Bool) (t t' : Target) → to_choose ≡ true → LeavesBus t t' → SettlesWhere to_choose t t'
 settles-by true t t' e m = m
@@ -125,18 +126,18 @@ act-rooms d after d' t e f = f ∙ ap (λ (x : DeviceState). x.rooms) e ∙ wher
 
 -- the live ticket of the connection's nexus is that of each nexus that the byte may name
 begins-live : (o : Option ℕ) (whole : Bool) (us : List (Option LogicalUnit)) (n : Nexus) (taken : List ℕ) → o ≡ live_ticket n →
-    begins_if (λ m. o) whole (record { units = us; link = Commanded n taken }) ≡ begins_if live_ticket whole (record { units = us; link = Commanded n taken })
+    begins_if (λ m. o) whole (record { units = us; link = TakingCommand n taken }) ≡ begins_if live_ticket whole (record { units = us; link = TakingCommand n taken })
 begins-live o false us n taken e = refl
-begins-live o true us n taken e = ap (λ (x : Option ℕ). target_begun (record { units = us; link = Commanded n taken }) (where_placed (has_place (unit_at us n.lun) n.tag) x)) e
+begins-live o true us n taken e = ap (λ (x : Option ℕ). target_begun (record { units = us; link = TakingCommand n taken }) (where_placed (has_place (unit_at us n.lun) n.tag) x)) e
 
-took-where-live : (o : Option ℕ) (taken : Bool) (l : Link) (us : List (Option LogicalUnit)) (byte : ℕ) → o ≡ ticket_at (nexus_of l) →
+took-where-live : (o : Option ℕ) (taken : Bool) (l : ConnectionState) (us : List (Option LogicalUnit)) (byte : ℕ) → o ≡ ticket_at (nexus_of l) →
     took_where (λ n. o) taken (record { units = us; link = l }) byte ≡ took_where live_ticket taken (record { units = us; link = l }) byte
 took-where-live o false l us byte e = refl
-took-where-live o true Free us byte e = refl
-took-where-live o true (Greeted heard) us byte e = refl
-took-where-live o true (Commanded n taken) us byte e = begins-live o (is_whole (taken ++ byte ∷ [])) us n (taken ++ byte ∷ []) e
-took-where-live o true (Working c) us byte e = refl
-took-where-live o true (Straying s n) us byte e = refl
+took-where-live o true BusFree us byte e = refl
+took-where-live o true (connection_state.Selected heard) us byte e = refl
+took-where-live o true (TakingCommand n taken) us byte e = begins-live o (is_whole (taken ++ byte ∷ [])) us n (taken ++ byte ∷ []) e
+took-where-live o true (TaskConnected c) us byte e = refl
+took-where-live o true (RogueConnected s n) us byte e = refl
 
 pub device-held : (d : DeviceState) (atn ack : Bool) (asked : Option BusPhase) → IsHeld (bus_of d atn ack asked) → IsHeldDevice d
 device-held d atn ack asked h = held (bus_of d false false None) (kept-of (bus_of d atn ack asked) h) h.fits (λ e. absurd cc)
@@ -238,7 +239,7 @@ present-by false true deep e = absurd cc
 present-of : (r : RigUnit) → is_usual r ≡ true → r.absent ≡ false
 present-of r e = present-by r.rogue r.absent (nat_lt 0 r.depth) e
 
-absent-by : (u : LogicalUnit) (l : Link) → u.rig.absent ≡ false → is_absent (record { units = slots u; link = l }) ≡ false
+absent-by : (u : LogicalUnit) (l : ConnectionState) → u.rig.absent ≡ false → is_absent (record { units = slots u; link = l }) ≡ false
 unfolding is_absent answers
 absent-by u l e = rw e refl
 

@@ -4,12 +4,12 @@ use Rattle.scsi_words.specs.declared.phases.kinds.Phase.{Phase as BusPhase}
 use Rattle.scsi_words.specs.declared.phases.kinds.Phase.TheVariants.{Command, MsgOut, MsgIn, Status as StatusPhase}
 use Rattle.scsi_words.specs.Statuses.{status_code}
 use Rattle.chip_step.specs.Event.{Event, Phase, ByteIn, ByteOut, SetAtn, ClearAck, Leave}
-use Rattle.target_law.specs.declared.showing.Note.TheVariants.{Complete}
-use Rattle.target_law.specs.declared.showing.Showing.TheVariants.{Choosing, Telling, Saying}
-use Rattle.target_law.specs.declared.showing.Verdict.{Verdict}
+use Rattle.target_law.specs.declared.task_phase.TargetMessage.TheVariants.{CommandComplete}
+use Rattle.target_law.specs.declared.task_phase.TaskPhase.TheVariants.{ToChoose, Status, MessageIn}
+use Rattle.target_law.specs.declared.task_phase.Completion.{Completion}
 use Rattle.target_law.specs.Session.{Task, Session, closed}
 use Rattle.target_law.specs.Bytes.{status_told, hears}
-use Rattle.target_law.specs.Target.{LogicalUnit, Free, Greeted, Commanded, Target, session, unit_after}
+use Rattle.target_law.specs.Target.{LogicalUnit, BusFree, Selected, TakingCommand, Target, session, unit_after}
 use Rattle.target_law.specs.Beginning.{target_took}
 use Rattle.target_law.specs.Calls.{is_whole, is_rogue, target_selected, target_messaged, target_acked}
 use Rattle.straight_run.specs.Reading.{Answers, asks, outs, beginning}
@@ -23,47 +23,47 @@ use Rattle.one_target.proofs.Carrying.{bus}
 use Rattle.one_target.proofs.BlockBytes.{status-below}
 
 -- COMMAND COMPLETE is acknowledged
-acked-working : (u : LogicalUnit) (k : Task) (v : Verdict) (s : Session) → closed v (session u (connected k (Saying (Complete v) true))) ≡ s → target_acked (working u k (Saying (Complete v) true)) ≡ record { units = slots (unit_after u s); link = Free }
+acked-working : (u : LogicalUnit) (k : Task) (v : Completion) (s : Session) → closed v (session u (connected k (MessageIn (CommandComplete v) true))) ≡ s → target_acked (working u k (MessageIn (CommandComplete v) true)) ≡ record { units = slots (unit_after u s); link = BusFree }
 unfolding target_acked
 acked-working u k v s e = rw (unit_at-slots u, e, with_unit-slots u (unit_after u s)) refl
 
 -- IDENTIFY and SIMPLE QUEUE TAG 0 lead to COMMAND
 
-messaged-slots : (u : LogicalUnit) → target_messaged (record { units = slots u; link = Greeted (0xc0 ∷ 0x20 ∷ 0 ∷ []) }) ≡ record { units = slots u; link = Commanded (record { lun = 0; tag = 0 }) [] }
+messaged-slots : (u : LogicalUnit) → target_messaged (record { units = slots u; link = Selected (0xc0 ∷ 0x20 ∷ 0 ∷ []) }) ≡ record { units = slots u; link = TakingCommand (record { lun = 0; tag = 0 }) [] }
 unfolding target_messaged
 messaged-slots u = rw (unit_at-slots u) refl
 
-selected-slots : (u : LogicalUnit) → u.rig.rogue ≡ false → target_selected (record { units = slots u; link = Free }) ≡ record { units = slots u; link = Greeted [] }
+selected-slots : (u : LogicalUnit) → u.rig.rogue ≡ false → target_selected (record { units = slots u; link = BusFree }) ≡ record { units = slots u; link = Selected [] }
 unfolding is_rogue
 selected-slots u e = rw e refl
 
 -- an acknowledged message byte of a task
-after_ack-working : (rooms : List ℕ) (u : LogicalUnit) (k : Task) (v : Verdict) (s : Session) (asked : Option BusPhase) → closed v (session u (connected k (Saying (Complete v) true))) ≡ s → lie_within (slots (unit_after u s)) rooms ≡ true →
-    after_ack (record { target = working u k (Saying (Complete v) true); rooms = rooms; atn = false; ack = true; asked = asked }) ≡ bus rooms (record { units = slots (unit_after u s); link = Free }) asked
+after_ack-working : (rooms : List ℕ) (u : LogicalUnit) (k : Task) (v : Completion) (s : Session) (asked : Option BusPhase) → closed v (session u (connected k (MessageIn (CommandComplete v) true))) ≡ s → lie_within (slots (unit_after u s)) rooms ≡ true →
+    after_ack (record { target = working u k (MessageIn (CommandComplete v) true); rooms = rooms; atn = false; ack = true; asked = asked }) ≡ bus rooms (record { units = slots (unit_after u s); link = BusFree }) asked
 after_ack-working rooms u k v s asked e f =
-    let b : BusState = record { target = working u k (Saying (Complete v) true); rooms = rooms; atn = false; ack = true; asked = asked } in
-    let after : Target = record { units = slots (unit_after u s); link = Free } in
+    let b : BusState = record { target = working u k (MessageIn (CommandComplete v) true); rooms = rooms; atn = false; ack = true; asked = asked } in
+    let after : Target = record { units = slots (unit_after u s); link = BusFree } in
     let g : with_room rooms b.target (target_acked b.target) ≡ with_room rooms b.target after = ap (λ (x : Target). with_room rooms b.target x) (acked-working u k v s e) in
     let h : with_room rooms b.target after ≡ after = ap (λ (x : Bool). if_fits x b.target after) f in
     ap (λ (x : Target). record (becomes b x) { ack = false }) (g ∙ h)
 
 after_atn-slots : (rooms : List ℕ) (u : LogicalUnit) (asked : Option BusPhase) → lie_within (slots u) rooms ≡ true →
-    after_atn false (record { target = record { units = slots u; link = Greeted (0xc0 ∷ 0x20 ∷ 0 ∷ []) }; rooms = rooms; atn = true; ack = false; asked = asked })
-    ≡ bus rooms (record { units = slots u; link = Commanded (record { lun = 0; tag = 0 }) [] }) asked
+    after_atn false (record { target = record { units = slots u; link = Selected (0xc0 ∷ 0x20 ∷ 0 ∷ []) }; rooms = rooms; atn = true; ack = false; asked = asked })
+    ≡ bus rooms (record { units = slots u; link = TakingCommand (record { lun = 0; tag = 0 }) [] }) asked
 after_atn-slots rooms u asked f =
-    let b : BusState = record { target = record { units = slots u; link = Greeted (0xc0 ∷ 0x20 ∷ 0 ∷ []) }; rooms = rooms; atn = true; ack = false; asked = asked } in
-    let after : Target = record { units = slots u; link = Commanded (record { lun = 0; tag = 0 }) [] } in
+    let b : BusState = record { target = record { units = slots u; link = Selected (0xc0 ∷ 0x20 ∷ 0 ∷ []) }; rooms = rooms; atn = true; ack = false; asked = asked } in
+    let after : Target = record { units = slots u; link = TakingCommand (record { lun = 0; tag = 0 }) [] } in
     let g : with_room rooms b.target (target_messaged b.target) ≡ with_room rooms b.target after = ap (λ (x : Target). with_room rooms b.target x) (messaged-slots u) in
     let h : with_room rooms b.target after ≡ after = ap (λ (x : Bool). if_fits x b.target after) f in
     ap (λ (x : Target). record (becomes b x) { atn = false }) (g ∙ h)
 
 -- a byte of the message, and one of the command after which this isn't whole
-took-greeted : (us : List (Option LogicalUnit)) (heard : List ℕ) (byte : ℕ) → target_took live_ticket (record { units = us; link = Greeted heard }) byte ≡ record { units = us; link = Greeted (hears heard byte) }
+took-greeted : (us : List (Option LogicalUnit)) (heard : List ℕ) (byte : ℕ) → target_took live_ticket (record { units = us; link = Selected heard }) byte ≡ record { units = us; link = Selected (hears heard byte) }
 unfolding target_took
 took-greeted us heard byte = refl
 
 took-commanded : (us : List (Option LogicalUnit)) (taken : List ℕ) (byte : ℕ) → is_whole taken ≡ false → is_whole (taken ++ byte ∷ []) ≡ false →
-    target_took live_ticket (record { units = us; link = Commanded (record { lun = 0; tag = 0 }) taken }) byte ≡ record { units = us; link = Commanded (record { lun = 0; tag = 0 }) (taken ++ byte ∷ []) }
+    target_took live_ticket (record { units = us; link = TakingCommand (record { lun = 0; tag = 0 }) taken }) byte ≡ record { units = us; link = TakingCommand (record { lun = 0; tag = 0 }) (taken ++ byte ∷ []) }
 unfolding target_took
 took-commanded us taken byte w x = rw (w, x) refl
 
@@ -79,35 +79,35 @@ abbrev pub telling : ℕ → List Event
 telling status = ByteIn (Some status) ∷ asks MsgIn completing
 
 module _ (P : BusState → Type 0) (rooms : List ℕ) (roomy : 8 ≤ get_or rooms 0 0) where
-  pub tells : (u : LogicalUnit) (k : Task) (v : Verdict) (s : Session) → closed v (session u (connected k (Saying (Complete v) true))) ≡ s → length s.log ≤ 8 →
-      P (bus rooms (record { units = slots (unit_after u s); link = Free }) (Some MsgIn)) →
-      Answers moves (telling (status_code (status_told v))) P (bus rooms (working u k (Telling v)) (Some StatusPhase))
+  pub tells : (u : LogicalUnit) (k : Task) (v : Completion) (s : Session) → closed v (session u (connected k (MessageIn (CommandComplete v) true))) ≡ s → length s.log ≤ 8 →
+      P (bus rooms (record { units = slots (unit_after u s); link = BusFree }) (Some MsgIn)) →
+      Answers moves (telling (status_code (status_told v))) P (bus rooms (working u k (Status v)) (Some StatusPhase))
   tells u k v s e l p =
       let f : lie_within (slots (unit_after u s)) rooms ≡ true = slots-fit (unit_after u s) rooms roomy l in
-      let free : BusState = bus rooms (record { units = slots (unit_after u s); link = Free }) (Some MsgIn) in
-      let acked : BusState = record { target = working u k (Saying (Complete v) true); rooms = rooms; atn = false; ack = true; asked = Some MsgIn } in
+      let free : BusState = bus rooms (record { units = slots (unit_after u s); link = BusFree }) (Some MsgIn) in
+      let acked : BusState = record { target = working u k (MessageIn (CommandComplete v) true); rooms = rooms; atn = false; ack = true; asked = Some MsgIn } in
       let left : Answers moves (Leave 0 true ∷ []) P free = leaves P free [] refl p in
       let left' : Answers moves (Leave 0 true ∷ []) P (after_ack acked) = rw (after_ack-working rooms u k v s (Some MsgIn) e f) left in
-      gives P (status_code (status_told v)) (bus rooms (working u k (Telling v)) (Some StatusPhase)) (asks MsgIn completing) (status-below (status_told v)) refl refl
-      (clears_ack P (bus rooms (working u k (Saying (Complete v) false)) (Some StatusPhase)) (Phase 0 (Some MsgIn) ∷ completing)
-      (asks_shown P MsgIn (bus rooms (working u k (Saying (Complete v) false)) (Some StatusPhase)) completing (record { bound = refl; phase = refl })
-      (gives P 0 (bus rooms (working u k (Saying (Complete v) false)) (Some MsgIn)) (ClearAck ∷ Leave 0 true ∷ []) (omega arith) refl refl
+      gives P (status_code (status_told v)) (bus rooms (working u k (Status v)) (Some StatusPhase)) (asks MsgIn completing) (status-below (status_told v)) refl refl
+      (clears_ack P (bus rooms (working u k (MessageIn (CommandComplete v) false)) (Some StatusPhase)) (Phase 0 (Some MsgIn) ∷ completing)
+      (asks_shown P MsgIn (bus rooms (working u k (MessageIn (CommandComplete v) false)) (Some StatusPhase)) completing (record { bound = refl; phase = refl })
+      (gives P 0 (bus rooms (working u k (MessageIn (CommandComplete v) false)) (Some MsgIn)) (ClearAck ∷ Leave 0 true ∷ []) (omega arith) refl refl
       (clears_ack P acked (Leave 0 true ∷ []) left'))))
 
   -- a byte of COMMAND
   commands : (u : LogicalUnit) (taken : List ℕ) (byte : ℕ) (es : List Event) → is_whole taken ≡ false → is_whole (taken ++ byte ∷ []) ≡ false →
-      Answers moves es P (bus rooms (record { units = slots u; link = Commanded (record { lun = 0; tag = 0 }) (taken ++ byte ∷ []) }) (Some Command)) →
-      Answers moves (ByteOut byte true ∷ es) P (bus rooms (record { units = slots u; link = Commanded (record { lun = 0; tag = 0 }) taken }) (Some Command))
+      Answers moves es P (bus rooms (record { units = slots u; link = TakingCommand (record { lun = 0; tag = 0 }) (taken ++ byte ∷ []) }) (Some Command)) →
+      Answers moves (ByteOut byte true ∷ es) P (bus rooms (record { units = slots u; link = TakingCommand (record { lun = 0; tag = 0 }) taken }) (Some Command))
   commands u taken byte es w x a =
-      let b : BusState = bus rooms (record { units = slots u; link = Commanded (record { lun = 0; tag = 0 }) taken }) (Some Command) in
+      let b : BusState = bus rooms (record { units = slots u; link = TakingCommand (record { lun = 0; tag = 0 }) taken }) (Some Command) in
       let a' : Answers moves es P (becomes b (target_took live_ticket b.target byte)) = rw (took-commanded (slots u) taken byte w x) a in
       takes P byte b es (rw w refl) a'
 
-  command_goes : (u : LogicalUnit) (k : Task) (lba : ℕ) (es : List Event) → target_took live_ticket (record { units = slots u; link = Commanded (record { lun = 0; tag = 0 }) (cdb_front lba) }) 0 ≡ working u k Choosing →
-      Answers moves es P (bus rooms (working u k Choosing) (Some Command)) →
-      Answers moves (outs (cdb lba) es) P (bus rooms (record { units = slots u; link = Commanded (record { lun = 0; tag = 0 }) [] }) (Some Command))
+  command_goes : (u : LogicalUnit) (k : Task) (lba : ℕ) (es : List Event) → target_took live_ticket (record { units = slots u; link = TakingCommand (record { lun = 0; tag = 0 }) (cdb_front lba) }) 0 ≡ working u k ToChoose →
+      Answers moves es P (bus rooms (working u k ToChoose) (Some Command)) →
+      Answers moves (outs (cdb lba) es) P (bus rooms (record { units = slots u; link = TakingCommand (record { lun = 0; tag = 0 }) [] }) (Some Command))
   command_goes u k lba es begun a =
-      let nine : BusState = bus rooms (record { units = slots u; link = Commanded (record { lun = 0; tag = 0 }) (cdb_front lba) }) (Some Command) in
+      let nine : BusState = bus rooms (record { units = slots u; link = TakingCommand (record { lun = 0; tag = 0 }) (cdb_front lba) }) (Some Command) in
       let last : Answers moves es P (becomes nine (target_took live_ticket nine.target 0)) = rw begun a in
       let b3 : ℕ = lba / 16777216 % 256 in
       let b2 : ℕ = lba / 65536 % 256 in
@@ -126,21 +126,21 @@ module _ (P : BusState → Type 0) (rooms : List ℕ) (roomy : 8 ≤ get_or room
 
   -- a byte of the message
   messages : (u : LogicalUnit) (heard : List ℕ) (byte : ℕ) (es : List Event) →
-      Answers moves es P (record { target = record { units = slots u; link = Greeted (hears heard byte) }; rooms = rooms; atn = true; ack = false; asked = Some MsgOut }) →
-      Answers moves (ByteOut byte true ∷ es) P (record { target = record { units = slots u; link = Greeted heard }; rooms = rooms; atn = true; ack = false; asked = Some MsgOut })
+      Answers moves es P (record { target = record { units = slots u; link = Selected (hears heard byte) }; rooms = rooms; atn = true; ack = false; asked = Some MsgOut }) →
+      Answers moves (ByteOut byte true ∷ es) P (record { target = record { units = slots u; link = Selected heard }; rooms = rooms; atn = true; ack = false; asked = Some MsgOut })
   messages u heard byte es a =
-      let b : BusState = record { target = record { units = slots u; link = Greeted heard }; rooms = rooms; atn = true; ack = false; asked = Some MsgOut } in
+      let b : BusState = record { target = record { units = slots u; link = Selected heard }; rooms = rooms; atn = true; ack = false; asked = Some MsgOut } in
       let a' : Answers moves es P (becomes b (target_took live_ticket b.target byte)) = rw (took-greeted (slots u) heard byte) a in
       takes P byte b es refl a'
 
   -- from the free bus to the task that begins
   pub begins_with : (u : LogicalUnit) (k : Task) (lba : ℕ) (asked : Option BusPhase) (es : List Event) → u.rig.rogue ≡ false → length u.log ≤ 8 →
-      target_took live_ticket (record { units = slots u; link = Commanded (record { lun = 0; tag = 0 }) (cdb_front lba) }) 0 ≡ working u k Choosing →
-      Answers moves es P (bus rooms (working u k Choosing) (Some Command)) →
-      Answers moves (beginning lba es) P (bus rooms (record { units = slots u; link = Free }) asked)
+      target_took live_ticket (record { units = slots u; link = TakingCommand (record { lun = 0; tag = 0 }) (cdb_front lba) }) 0 ≡ working u k ToChoose →
+      Answers moves es P (bus rooms (working u k ToChoose) (Some Command)) →
+      Answers moves (beginning lba es) P (bus rooms (record { units = slots u; link = BusFree }) asked)
   begins_with u k lba asked es quiet l begun a =
-      let greeted : List ℕ → Option BusPhase → BusState = λ heard phase. record { target = record { units = slots u; link = Greeted heard }; rooms = rooms; atn = true; ack = false; asked = phase } in
-      let told : BusState = bus rooms (record { units = slots u; link = Commanded (record { lun = 0; tag = 0 }) [] }) (Some MsgOut) in
+      let greeted : List ℕ → Option BusPhase → BusState = λ heard phase. record { target = record { units = slots u; link = Selected heard }; rooms = rooms; atn = true; ack = false; asked = phase } in
+      let told : BusState = bus rooms (record { units = slots u; link = TakingCommand (record { lun = 0; tag = 0 }) [] }) (Some MsgOut) in
       let commanding : List Event = outs (cdb lba) es in
       let a1 : Answers moves (asks Command commanding) P told =
       clears_ack P told (Phase 0 (Some Command) ∷ commanding) (asks_shown P Command told commanding (record { bound = refl; phase = refl }) (command_goes u k lba es begun a)) in
@@ -152,8 +152,8 @@ module _ (P : BusState → Type 0) (rooms : List ℕ) (roomy : 8 ≤ get_or room
       let speaking : List Event = outs (0xc0 ∷ 0x20 ∷ 0 ∷ []) telling_on in
       let a5 : Answers moves (asks MsgOut speaking) P (greeted [] asked) =
       clears_ack P (greeted [] asked) (Phase 0 (Some MsgOut) ∷ speaking) (asks_shown P MsgOut (greeted [] asked) speaking (record { bound = refl; phase = refl }) a4) in
-      let quiet_greeted : BusState = bus rooms (record { units = slots u; link = Greeted [] }) asked in
+      let quiet_greeted : BusState = bus rooms (record { units = slots u; link = Selected [] }) asked in
       let a6 : Answers moves (SetAtn true ∷ asks MsgOut speaking) P quiet_greeted = sets_atn P true quiet_greeted (asks MsgOut speaking) a5 in
-      let free : BusState = bus rooms (record { units = slots u; link = Free }) asked in
+      let free : BusState = bus rooms (record { units = slots u; link = BusFree }) asked in
       let a7 : Answers moves (SetAtn true ∷ asks MsgOut speaking) P (record free { target = target_selected free.target }) = rw (selected-slots u quiet) a6 in
       selects P free (SetAtn true ∷ asks MsgOut speaking) refl a7

@@ -6,11 +6,11 @@ use Rattle.scsi_words.specs.Statuses.{status_code}
 use Rattle.bench_words.specs.Memory.{bytes_at}
 use Rattle.cdb_codec.specs.declared.commands.Cdb.TheVariants.{Read}
 use Rattle.rig_types.specs.declared.report.Report.{Report}
-use Rattle.plain_lun.specs.Unit.{Plain}
+use Rattle.plain_lun.specs.Unit.{UnitState}
 use Rattle.plain_lun.specs.Performing.{Answered, Performed, perform, transferred}
 use Rattle.unit_law.specs.declared.entry.LogEntry.{LogEntry}
-use Rattle.unit_law.specs.Request.{PlainRequest, command, received_of}
-use Rattle.unit_law.specs.Log.{with_at, Ran, ran_none, performed, run_log, tally, Tally, view_of}
+use Rattle.unit_law.specs.Request.{RequestData, command, received_of}
+use Rattle.unit_law.specs.Log.{with_at, LogResult, log_result_none, performed, run_log, tally, Tally, view_of}
 use Rattle.unit_law.specs.Report.{filled, moved, if_good, ByEnd, Fits, SenseFits}
 use Rattle.unit_law.proofs.Views.{with_at-same}
 use Rattle.chip_step.specs.Chip.{Chip}
@@ -26,11 +26,11 @@ use Rattle.one_target.proofs.WholeReads.{one-read, one-refused, length-block_at,
 use Rattle.one_target.proofs.Memory.{length-after, status-after, buffer-read, buffer-refused}
 
 -- the log of a read, and that of one that ends with a status alone
-run-read : (requests : ℕ → PlainRequest) (u : Plain) (q : Performed) → perform u (command (requests 0)) (received_of (requests 0)) ≡ q → run_log requests u read_log ≡ performed requests (ran_none u) 0 q
+run-read : (requests : ℕ → RequestData) (u : UnitState) (q : Performed) → perform u (command (requests 0)) (received_of (requests 0)) ≡ q → run_log requests u read_log ≡ performed requests (log_result_none u) 0 q
 unfolding run_log with_at
 run-read requests u q e = rw e refl
 
-run-refused : (requests : ℕ → PlainRequest) (u : Plain) (q : Performed) → perform u (command (requests 0)) (received_of (requests 0)) ≡ q → run_log requests u refused_log ≡ performed requests (ran_none u) 0 q
+run-refused : (requests : ℕ → RequestData) (u : UnitState) (q : Performed) → perform u (command (requests 0)) (received_of (requests 0)) ≡ q → run_log requests u refused_log ≡ performed requests (log_result_none u) 0 q
 unfolding run_log
 run-refused requests u q e = rw e refl
 
@@ -52,7 +52,7 @@ unfolding tally
 tally-refused = record { refusals = refl; ends = refl; drops = refl; senses = refl; early = refl; clears = refl }
 
 -- the unit performs the request as it performs a READ(10)
-abbrev requests_of : ℕ → ℕ → PlainRequest
+abbrev requests_of : ℕ → ℕ → RequestData
 requests_of lba = λ t. request_of lba
 
 one-performed : (lba : ℕ) → lba < 2 ^ 32 → perform one_plain (command (request_of lba)) (received_of (request_of lba)) ≡ perform one_plain (Read lba 1 false) (received_of (request_of lba))
@@ -96,11 +96,11 @@ sense-with lba log status bytes k none = λ quiet. record {
   asked = λ h e. absurd (let f : false ≡ true = h.autosense in cc);
 }
 
-answers-of : (requests : ℕ → PlainRequest) (u : Plain) (log : List LogEntry) (q : Performed) → run_log requests u log ≡ performed requests (ran_none u) 0 q → (run_log requests u log).answers 0 ≡ Some q.answer
-answers-of requests u log q e = ap (λ (r : Ran). r.answers 0) e ∙ with_at-same (λ t. None) 0 (Some q.answer)
+answers-of : (requests : ℕ → RequestData) (u : UnitState) (log : List LogEntry) (q : Performed) → run_log requests u log ≡ performed requests (log_result_none u) 0 q → (run_log requests u log).answers 0 ≡ Some q.answer
+answers-of requests u log q e = ap (λ (r : LogResult). r.answers 0) e ∙ with_at-same (λ t. None) 0 (Some q.answer)
 
-senses-of : (requests : ℕ → PlainRequest) (u : Plain) (log : List LogEntry) (q : Performed) → run_log requests u log ≡ performed requests (ran_none u) 0 q → (run_log requests u log).senses 0 ≡ None
-senses-of requests u log q e = ap (λ (r : Ran). r.senses 0) e
+senses-of : (requests : ℕ → RequestData) (u : UnitState) (log : List LogEntry) (q : Performed) → run_log requests u log ≡ performed requests (log_result_none u) 0 q → (run_log requests u log).senses 0 ≡ None
+senses-of requests u log q e = ap (λ (r : LogResult). r.senses 0) e
 
 -- the report of memory, by its status and its buffer
 report-in : (m : List ℕ) (status : ℕ) (bytes : List ℕ) → get_or m 0x10014 0 ≡ status → bytes_at m 0x200000 512 ≡ bytes → report_in m ≡ report_with status bytes
@@ -108,13 +108,13 @@ report-in m status bytes e f = ap (λ (x : ℕ). report_with x (bytes_at m 0x200
 
 -- all that is left is what the unit ended with
 whole : (lba status : ℕ) (bytes : List ℕ) (log : List LogEntry) (q : Performed) (moved : List ℕ) (bus : BusState) (chip : Chip BusState) → IsOpened bus → FromOpening moves lba bus chip →
-    GoesThrough lba moved status (Ended (after_read lba) log) chip → run_log (requests_of lba) one_plain log ≡ performed (requests_of lba) (ran_none one_plain) 0 q → q.unit ≡ after_read lba →
+    GoesThrough lba moved status (Ended (after_read lba) log) chip → run_log (requests_of lba) one_plain log ≡ performed (requests_of lba) (log_result_none one_plain) 0 q → q.unit ≡ after_read lba →
     report_in chip.memory ≡ report_with status bytes → OneEnd (tally 0 log) → status ≡ status_code q.answer.status → (report_with status bytes).residual ≡ 512 - if_good q.answer.status (length q.answer.bytes) →
     bytes ≡ filled q.answer.bytes (length q.answer.bytes) submitted → OneReport lba (report_in chip.memory)
 whole lba status bytes log q moved bus chip o f g ran after is k st left held =
     let e : Ended (after_read lba) log chip.bus = g.bus_is in
     let log_is : e.unit.log ≡ log = e.log_is in
-    let alone : e.unit.plain ≡ (run_log (requests_of lba) one_plain log).unit = e.plain_is ∙ sym after ∙ sym (ap (λ (r : Ran). r.unit) ran) in
+    let alone : e.unit.plain ≡ (run_log (requests_of lba) one_plain log).unit = e.plain_is ∙ sym after ∙ sym (ap (λ (r : LogResult). r.unit) ran) in
     let fits : Fits the_setting 0 (request_of lba) (view_of (requests_of lba) one_plain log 0) (the_course log) (report_with status bytes) =
     fits-with lba log q.answer status bytes k (answers-of (requests_of lba) one_plain log q ran) st left held in
     let sense : SenseFits the_setting (view_of (requests_of lba) one_plain log 0) (the_course log) (report_with status bytes) =
@@ -143,7 +143,7 @@ read-reported lba h bus o chip f =
     let len : length (block_at lba) ≡ 512 = length-block_at lba h in
     let g : GoesThrough lba (block_at lba) 0 (Ended (after_read lba) read_log) chip = read_goes moves (Ended (after_read lba) read_log) lba (block_at lba) 0 bus chip f len (reads lba h bus o) in
     let m : List ℕ = g.zero_memory in
-    let ran : run_log (requests_of lba) one_plain read_log ≡ performed (requests_of lba) (ran_none one_plain) 0 q = run-read (requests_of lba) one_plain q (one-performed lba (omega arith) ∙ one-read lba received h) in
+    let ran : run_log (requests_of lba) one_plain read_log ≡ performed (requests_of lba) (log_result_none one_plain) 0 q = run-read (requests_of lba) one_plain q (one-performed lba (omega arith) ∙ one-read lba received h) in
     let is : report_in chip.memory ≡ report_with 0 (block_at lba) =
     report-in chip.memory 0 (block_at lba) (ap (λ (x : List ℕ). get_or x 0x10014 0) g.memory_is ∙ status-after lba (block_at lba) 0 m g.zeros)
     (ap (λ (x : List ℕ). bytes_at x 0x200000 512) g.memory_is ∙ buffer-read lba (block_at lba) 0 m g.zeros len) in
@@ -156,7 +156,7 @@ refused-reported lba h fits bus o chip f =
     let q : Performed = transferred false one_plain one_plain.disk (block_at lba) in
     let g : GoesThrough lba [] 2 (Ended (after_read lba) refused_log) chip = status_goes moves (Ended (after_read lba) refused_log) lba 2 bus chip f (checks lba h fits bus o) in
     let m : List ℕ = g.zero_memory in
-    let ran : run_log (requests_of lba) one_plain refused_log ≡ performed (requests_of lba) (ran_none one_plain) 0 q = run-refused (requests_of lba) one_plain q (one-performed lba fits ∙ one-refused lba received h) in
+    let ran : run_log (requests_of lba) one_plain refused_log ≡ performed (requests_of lba) (log_result_none one_plain) 0 q = run-refused (requests_of lba) one_plain q (one-performed lba fits ∙ one-refused lba received h) in
     let is : report_in chip.memory ≡ report_with 2 submitted =
     report-in chip.memory 2 submitted (ap (λ (x : List ℕ). get_or x 0x10014 0) g.memory_is ∙ status-after lba [] 2 m g.zeros)
     (ap (λ (x : List ℕ). bytes_at x 0x200000 512) g.memory_is ∙ buffer-refused lba 2 m g.zeros) in

@@ -2,7 +2,7 @@
 use Rattle.std.proofs.Common.{false, ◌≡◌, ◌≤◌, true, [], ◌∷◌, replicate, get_or, refl, ap, sym, ◌∙◌, subst, Option, Some, None, lit≤}
 use Rattle.rig_types.specs.declared.rig.Pattern.TheVariants.{Count}
 use Rattle.rig_types.specs.declared.rig.Unit.{Unit as RigUnit}
-use Rattle.target_law.specs.Target.{LogicalUnit, Free, Target, unit_at, unit_opened, target_opened}
+use Rattle.target_law.specs.Target.{LogicalUnit, BusFree, Target, unit_at, unit_opened, target_opened}
 use Rattle.target_law.specs.Lawful.{IsThere}
 use Rattle.target_law.specs.Devices.{DeviceState, device_opened, device_reserved, lie_within}
 use Rattle.scsi_target.specs.Devices.{HasUnit}
@@ -15,7 +15,7 @@ use Rattle.one_target.proofs.Between.{held}
 
 opened-alone : (r : RigUnit) → r.lun ≡ 0 → is_usual r ≡ true → (t : Target) → t ≡ target_opened (r ∷ []) → IsKept t
 opened-alone r z e t o =
-    let is : t ≡ record { units = slots (unit_opened r); link = Free } = o ∙ opened-slots r z in
+    let is : t ≡ record { units = slots (unit_opened r); link = BusFree } = o ∙ opened-slots r z in
     subst IsKept (sym is) (record { alone = record { unit = unit_opened r; units_are = refl; usual = e }; of_one = refl })
 
 opened-unit : (r : RigUnit) → r.lun ≡ 0 → (t : Target) → t ≡ target_opened (r ∷ []) → unit_at t.units 0 ≡ Some (unit_opened r)
@@ -41,7 +41,7 @@ roomy r z d d' o e =
 
 pub opened-held : (r : RigUnit) → r.lun ≡ 0 → is_usual r ≡ true → (d : DeviceState) → Roomy r d → IsHeld (bus_of d false false None)
 opened-held r z e d h =
-    let is : d.target ≡ record { units = slots (unit_opened r); link = Free } = h.target_is ∙ opened-slots r z in
+    let is : d.target ≡ record { units = slots (unit_opened r); link = BusFree } = h.target_is ∙ opened-slots r z in
     let fits : lie_within d.target.units d.rooms ≡ true = ap (λ (x : Target). lie_within x.units d.rooms) is ∙ slots-fit (unit_opened r) d.rooms h.room (lit≤ tt) in
     held (bus_of d false false None) (opened-alone r z e d.target h.target_is) fits (λ f. absurd cc)
 

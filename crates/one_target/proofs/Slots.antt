@@ -2,7 +2,7 @@
 use Rattle.std.proofs.Common.{◌≡◌, ℕ, zero, suc, ◌≤◌, true, nat_le, List, [], ◌∷◌, length, get_or, refl, arith, Option, Some, None}
 use Rattle.std.proofs.lemmas.Bool.Decides.{nat_tests}
 use Rattle.rig_types.specs.declared.rig.Unit.{Unit as RigUnit}
-use Rattle.target_law.specs.Target.{LogicalUnit, Free, unit_at, with_unit, unit_opened, target_opened}
+use Rattle.target_law.specs.Target.{LogicalUnit, BusFree, unit_at, with_unit, unit_opened, target_opened}
 use Rattle.target_law.specs.Devices.{lie_within}
 
 -- the eight places of its units
@@ -17,7 +17,7 @@ pub with_unit-slots : (u v : LogicalUnit) → with_unit (slots u) 0 v ≡ slots 
 unfolding with_unit
 with_unit-slots u v = refl
 
-pub opened-slots : (r : RigUnit) → r.lun ≡ 0 → target_opened (r ∷ []) ≡ record { units = slots (unit_opened r); link = Free }
+pub opened-slots : (r : RigUnit) → r.lun ≡ 0 → target_opened (r ∷ []) ≡ record { units = slots (unit_opened r); link = BusFree }
 unfolding target_opened with_unit
 opened-slots r e = rw e refl
 

@@ -6,7 +6,7 @@ use Rattle.scsi_words.specs.Statuses.{status_code}
 use Rattle.cdb_codec.specs.declared.commands.Cdb.TheVariants.{Read}
 use Rattle.plain_lun.specs.Unit.{blocks_of}
 use Rattle.plain_lun.specs.Performing.{Performed, perform, holds, transferred}
-use Rattle.target_law.specs.Target.{Free}
+use Rattle.target_law.specs.Target.{BusFree}
 use Rattle.straight_run.specs.Reading.{Answers, read_calls, status_calls}
 use Rattle.one_target.specs.Bus.{BusState, moves}
 use Rattle.one_target.specs.Opening.{one_unit, one_plain, IsOpened}
@@ -35,7 +35,7 @@ pub length-block_at : (lba : ℕ) → lba < 64 → length (block_at lba) ≡ 512
 length-block_at lba h = length-block one_plain.disk lba (rw one-length (omega arith))
 
 abbrev opened_bus : BusState → BusState
-opened_bus b = bus b.rooms (record { units = slots (unit_with one_unit one_plain []); link = Free }) b.asked
+opened_bus b = bus b.rooms (record { units = slots (unit_with one_unit one_plain []); link = BusFree }) b.asked
 
 is-opened_bus : (b : BusState) → IsOpened b → b ≡ opened_bus b
 is-opened_bus b o = opened-bus b one_unit o.target_is o.atn o.ack one-lun

@@ -10,7 +10,7 @@ use Rattle.chip_step.specs.declared.scsi_bus.Settled.TheVariants.{Selected, Time
 use Rattle.target_law.specs.declared.moves.Move.{Move}
 use Rattle.target_law.specs.declared.nexus.Nexus.{Nexus}
 use Rattle.target_law.specs.Bytes.{Connection}
-use Rattle.target_law.specs.Target.{LogicalUnit, Link, Working, Target, unit_at, linked, leaves}
+use Rattle.target_law.specs.Target.{LogicalUnit, ConnectionState, TaskConnected, Target, unit_at, linked, leaves}
 use Rattle.target_law.specs.Beginning.{target_took}
 use Rattle.target_law.specs.Calls.{is_free, link_phase, target_selected, target_acted, asked_by, link_byte, sent_if, link_takes, target_messaged, target_acked}
 use Rattle.target_law.specs.Lawful.{NamesOf}
@@ -49,14 +49,14 @@ ticket_at None = None
 ticket_at (Some n) = live_ticket n
 
 -- connected, and no phase is shown
-abbrev pub is_to_choose : Link → Bool
+abbrev pub is_to_choose : ConnectionState → Bool
 is_to_choose l = not (is_free l) && is_none (link_phase l)
 
 -- A target that is to choose makes the move that the word names. One whose log has no room for the move's entries leaves the bus, its task away
 -- as by DISCONNECT.
 pub record LeavesBus (t t' : Target) : Type 0 where
   pub connection : Connection
-  pub working : t.link ≡ Working connection
+  pub working : t.link ≡ TaskConnected connection
   pub unit : LogicalUnit
   pub unit_is : unit_at t.units connection.lun ≡ Some unit
   pub left : t' ≡ leaves t connection unit
@@ -75,14 +75,14 @@ pub record Acts (rooms : List ℕ) (word : ℕ) (t : Target) (c : Connection) (t
   pub named : NamesOf unit c word move
   pub after : Settles (with_room rooms t (target_acted t move)) t'
 
-abbrev pub ActsAt : Link → List ℕ → (word : ℕ) → (t t' : Target) → Type 0
-ActsAt (Working c) rooms word t t' = Acts rooms word t c t'
+abbrev pub ActsAt : ConnectionState → List ℕ → (word : ℕ) → (t t' : Target) → Type 0
+ActsAt (TaskConnected c) rooms word t t' = Acts rooms word t c t'
 ActsAt _ rooms word t t' = ⊥
 
 -- while ATN is asserted it shows MSG_OUT instead
-abbrev pub Chooses : Link → (atn : Bool) → List ℕ → (word : ℕ) → (t t' : Target) → Type 0
-Chooses (Working c) true rooms word t t' = t' ≡ linked t (asked_by (Working c))
-Chooses (Working c) false rooms word t t' = Acts rooms word t c t'
+abbrev pub Chooses : ConnectionState → (atn : Bool) → List ℕ → (word : ℕ) → (t t' : Target) → Type 0
+Chooses (TaskConnected c) true rooms word t t' = t' ≡ linked t (asked_by (TaskConnected c))
+Chooses (TaskConnected c) false rooms word t t' = Acts rooms word t c t'
 Chooses _ atn rooms word t t' = ⊥
 
 abbrev pub ChoosesWhere : (to_choose atn : Bool) → List ℕ → (word : ℕ) → (t t' : Target) → Type 0

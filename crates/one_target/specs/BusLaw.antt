@@ -6,7 +6,8 @@ use Rattle.chip_step.specs.Event.{Event, Phase, Shown, ByteIn, ByteOut, Select, 
 use Rattle.chip_step.specs.Laws.{IsLawful}
 use Rattle.chip_step.specs.declared.scsi_bus.Settled.TheVariants.{Selected, Reselected, TimedOut}
 use Rattle.target_law.specs.Bytes.{Connection}
-use Rattle.target_law.specs.Target.{Link, Free, Greeted, Commanded, Working, Straying, Target, linked}
+use Rattle.target_law.specs.Target as connection_state
+use Rattle.target_law.specs.Target.{ConnectionState, BusFree, TakingCommand, TaskConnected, RogueConnected, Target, linked}
 use Rattle.target_law.specs.Calls.{is_free, link_phase, link_byte, link_takes, sent_if, target_acted}
 use Rattle.one_target.specs.Bus.{BusState, with_room, become, is_to_choose, SettlesWhere, Acts, Chooses, ChoosesWhere, GoesOn, TurnsWhere, as_byte, ack_by, ComesIn, StaysOut, taken_where, SelectsWhere, acked_where, moves, signals_of}
 
@@ -16,12 +17,12 @@ free_where true shown e h = refl
 free_where false None e h = absurd cc
 free_where false (Some p) e h = absurd cc
 
-unfree : (l : Link) (p : BusPhase) → Some p ≡ link_phase l → is_free l ≡ false
-unfree Free p e = absurd cc
-unfree (Greeted heard) p e = refl
-unfree (Commanded n taken) p e = refl
-unfree (Working c) p e = refl
-unfree (Straying s n) p e = refl
+unfree : (l : ConnectionState) (p : BusPhase) → Some p ≡ link_phase l → is_free l ≡ false
+unfree BusFree p e = absurd cc
+unfree (connection_state.Selected heard) p e = refl
+unfree (TakingCommand n taken) p e = refl
+unfree (TaskConnected c) p e = refl
+unfree (RogueConnected s n) p e = refl
 
 become-target : (free : Bool) (b : BusState) (t : Target) → (become free b t).target ≡ t
 become-target true b t = refl
@@ -37,13 +38,13 @@ acts-free b word t t' c a h =
     let after : Target = with_room b.rooms t (target_acted t a.move) in
     settles-free (is_to_choose after.link) after t' refl a.after h
 
-chooses-free : (l : Link) (atn : Bool) (b : BusState) (word : ℕ) (t t' : Target) → Chooses l atn b.rooms word t t' → link_phase t'.link ≡ None → is_free t'.link ≡ true
-chooses-free (Working c) true b word t t' m h = let e : Some MsgOut ≡ None = ap (λ (x : Target). link_phase x.link) (sym m) ∙ h in absurd cc
-chooses-free (Working c) false b word t t' m h = acts-free b word t t' c m h
-chooses-free Free atn b word t t' m h = absurd m
-chooses-free (Greeted heard) atn b word t t' m h = absurd m
-chooses-free (Commanded n taken) atn b word t t' m h = absurd m
-chooses-free (Straying s n) atn b word t t' m h = absurd m
+chooses-free : (l : ConnectionState) (atn : Bool) (b : BusState) (word : ℕ) (t t' : Target) → Chooses l atn b.rooms word t t' → link_phase t'.link ≡ None → is_free t'.link ≡ true
+chooses-free (TaskConnected c) true b word t t' m h = let e : Some MsgOut ≡ None = ap (λ (x : Target). link_phase x.link) (sym m) ∙ h in absurd cc
+chooses-free (TaskConnected c) false b word t t' m h = acts-free b word t t' c m h
+chooses-free BusFree atn b word t t' m h = absurd m
+chooses-free (connection_state.Selected heard) atn b word t t' m h = absurd m
+chooses-free (TakingCommand n taken) atn b word t t' m h = absurd m
+chooses-free (RogueConnected s n) atn b word t t' m h = absurd m
 
 turn-free : (to_choose : Bool) (b : BusState) (word : ℕ) (t t' : Target) → is_to_choose t.link ≡ to_choose → ChoosesWhere to_choose b.atn b.rooms word t t' → link_phase t'.link ≡ None → is_free t'.link ≡ true
 turn-free true b word t t' e m h = chooses-free t.link b.atn b word t t' m h

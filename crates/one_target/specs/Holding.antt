@@ -1,9 +1,9 @@
 -- What holds of the bus of `one` between any two of its calls.
 use Rattle.std.specs.Prelude.{◌≡◌, nat_lt, ◌==◌, ◌&&◌, not, Bool, true, false, List, [], ◌∷◌, Option, Some, None}
 use Rattle.rig_types.specs.declared.rig.Unit.{Unit as RigUnit}
-use Rattle.target_law.specs.declared.showing.Showing.{Showing}
-use Rattle.target_law.specs.declared.showing.Showing.TheVariants.{Saying}
-use Rattle.target_law.specs.Target.{LogicalUnit, Link, Free, Greeted, Commanded, Working, Straying}
+use Rattle.target_law.specs.declared.task_phase.TaskPhase.{TaskPhase}
+use Rattle.target_law.specs.declared.task_phase.TaskPhase.TheVariants.{MessageIn}
+use Rattle.target_law.specs.Target.{LogicalUnit, ConnectionState, BusFree, Selected, TakingCommand, TaskConnected, RogueConnected}
 use Rattle.target_law.specs.Devices.{DeviceState, lie_within}
 use Rattle.one_target.specs.Bus.{BusState, bus_of}
 
@@ -17,20 +17,20 @@ is_alone (Some u ∷ None ∷ None ∷ None ∷ None ∷ None ∷ None ∷ None 
 is_alone _ = false
 
 -- the connection is one of LUN 0
-abbrev pub is_of_one : Link → Bool
-is_of_one Free = true
-is_of_one (Greeted heard) = true
-is_of_one (Commanded n taken) = n.lun == 0
-is_of_one (Working c) = c.lun == 0
-is_of_one (Straying s n) = false
+abbrev pub is_of_one : ConnectionState → Bool
+is_of_one BusFree = true
+is_of_one (Selected heard) = true
+is_of_one (TakingCommand n taken) = n.lun == 0
+is_of_one (TaskConnected c) = c.lun == 0
+is_of_one (RogueConnected s n) = false
 
 -- a message byte was sent that isn't acknowledged yet
-abbrev pub is_said : Showing → Bool
-is_said (Saying n sent) = sent
+abbrev pub is_said : TaskPhase → Bool
+is_said (MessageIn n sent) = sent
 is_said _ = false
 
-abbrev pub awaits_ack : Link → Bool
-awaits_ack (Working c) = is_said c.shows
+abbrev pub awaits_ack : ConnectionState → Bool
+awaits_ack (TaskConnected c) = is_said c.shows
 awaits_ack _ = false
 
 -- the logs lie within their rooms

@@ -3,22 +3,22 @@ use Rattle.std.specs.Prelude.{◌≡◌, ℕ, ◌<◌, ◌≤◌, ◌^◌, false
 use Rattle.scsi_words.specs.declared.statuses.kinds.Status.TheVariants.{Good, Check}
 use Rattle.scsi_words.specs.Statuses.{status_code}
 use Rattle.cdb_codec.specs.declared.commands.Cdb.TheVariants.{Read}
-use Rattle.plain_lun.specs.Unit.{Plain}
+use Rattle.plain_lun.specs.Unit.{UnitState}
 use Rattle.plain_lun.specs.Performing.{perform, blocks_at}
 use Rattle.unit_law.specs.declared.entry.LogEntry.{LogEntry}
 use Rattle.unit_law.specs.declared.entry.LogEntry.TheVariants.{Look, End}
-use Rattle.target_law.specs.Target.{LogicalUnit, Free, unit_at}
+use Rattle.target_law.specs.Target.{LogicalUnit, BusFree, unit_at}
 use Rattle.straight_run.specs.Reading.{Answers, read_calls, status_calls}
 use Rattle.one_target.specs.Bus.{BusState, moves}
 use Rattle.one_target.specs.Opening.{one_plain, IsOpened}
 
 -- the unit after it has read one block by itself
-abbrev pub after_read : ℕ → Plain
+abbrev pub after_read : ℕ → UnitState
 after_read lba = (perform one_plain (Read lba 1 false) []).unit
 
 -- the bus is free, and the unit is this one with this log
-pub record Ended (plain : Plain) (log : List LogEntry) (b : BusState) : Type 0 where
-  pub free : b.target.link ≡ Free
+pub record Ended (plain : UnitState) (log : List LogEntry) (b : BusState) : Type 0 where
+  pub free : b.target.link ≡ BusFree
   pub unit : LogicalUnit
   pub unit_is : unit_at b.target.units 0 ≡ Some unit
   pub plain_is : unit.plain ≡ plain

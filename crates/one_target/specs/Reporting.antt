@@ -11,10 +11,10 @@ use Rattle.chip_regs.specs.declared.registers.Cause.TheVariants.{Sir}
 use Rattle.chip_step.specs.Chip.{Chip}
 use Rattle.straight_run.specs.Opening.{cdb}
 use Rattle.straight_run.specs.Steps.{FromOpening}
-use Rattle.unit_law.specs.Request.{PlainRequest}
+use Rattle.unit_law.specs.Request.{RequestData}
 use Rattle.unit_law.specs.declared.entry.LogEntry.{LogEntry}
 use Rattle.unit_law.specs.Log.{run_log, tally, view_of}
-use Rattle.unit_law.specs.Report.{Setting, Course, Fits, SenseFits}
+use Rattle.unit_law.specs.Report.{UnitSetting, TicketHistory, Fits, SenseFits}
 use Rattle.target_law.specs.Target.{LogicalUnit, unit_at}
 use Rattle.one_target.specs.Bus.{BusState, moves}
 use Rattle.one_target.specs.Opening.{one_plain, IsOpened}
@@ -24,16 +24,16 @@ unfoldable pub submitted : List ℕ
 submitted = replicate 512 0
 
 -- READ(10) of the one block at an address, into one segment
-abbrev pub request_of : ℕ → PlainRequest
+abbrev pub request_of : ℕ → RequestData
 request_of lba = record { unit = 0; cdb = cdb lba; segments = 512 ∷ []; direction = In; bytes = submitted }
 
 -- the rig's word on the unit, and what the log says of a ticket that is live all the time, without acts and resets: every Clear of its unit's
 -- log is its own, and has no cause
-abbrev pub the_setting : Setting
+abbrev pub the_setting : UnitSetting
 the_setting = record { retries = 0; autosense = false; absent = false; rogue = false }
 
-abbrev pub the_course : List LogEntry → Course
-the_course log = record { marked = false; clears = (tally 0 log).clears; bus_reset = false; outside = 0; stray_clears = (tally 0 log).clears }
+abbrev pub the_course : List LogEntry → TicketHistory
+the_course log = record { marked = false; clears = (tally 0 log).clears; bus_reset = false; outside = 0; uncaused_clears = (tally 0 log).clears }
 
 -- ticket 0 is done with this status byte, and its buffer holds these bytes
 abbrev pub report_with : ℕ → List ℕ → Report

@@ -10,7 +10,7 @@ use Rattle.cdb_codec.specs.declared.commands.Cdb.TheVariants.{TestUnitReady, Req
 use Rattle.cdb_codec.specs.declared.commands.Need.{Need}
 use Rattle.cdb_codec.specs.Forms.{need_of, no_data}
 use Rattle.plain_lun.specs.declared.sense.SenseCode.{SenseCode}
-use Rattle.plain_lun.specs.Unit.{Plain, blocks_of}
+use Rattle.plain_lun.specs.Unit.{UnitState, blocks_of}
 
 -- NO SENSE
 abbrev pub no_sense : SenseCode
@@ -33,7 +33,7 @@ unfoldable pub inquiry_data : List ℕ
 inquiry_data = 0x00 ∷ 0x00 ∷ 0x02 ∷ 0x02 ∷ 0x1F ∷ 0x00 ∷ 0x00 ∷ 0x02 ∷ codes "SYMBENCHPLAIN UNIT      0001"
 
 -- READ CAPACITY's data: the last block and the length of a block, most significant byte first
-unfoldable pub capacity_data : Plain → List ℕ
+unfoldable pub capacity_data : UnitState → List ℕ
 capacity_data u = to_be_bytes w32 (blocks_of u - 1) ++ to_be_bytes w32 512
 
 -- a status with its data
@@ -43,15 +43,15 @@ pub record Answered : Type 0 where
 
 -- the unit after a command, and its answer
 pub record Performed : Type 0 where
-  pub unit : Plain
+  pub unit : UnitState
   pub answer : Answered
 
 -- GOOD with these data: the disk is then this one, and the old sense is removed
-abbrev pub good : Plain → List ℕ → List ℕ → Performed
+abbrev pub good : UnitState → List ℕ → List ℕ → Performed
 good u disk bytes = record { unit = record { disk = disk; sense = None; attention = u.attention }; answer = record { status = Good; bytes = bytes } }
 
 -- CHECK CONDITION without data: the unit keeps this sense, and its attention is cleared
-abbrev pub checked : Plain → SenseCode → Performed
+abbrev pub checked : UnitState → SenseCode → Performed
 checked u s = record { unit = record { disk = u.disk; sense = Some s; attention = false }; answer = record { status = Check; bytes = [] } }
 
 -- the sense that REQUEST SENSE gives: the unit's own, else that of its attention, else none
@@ -66,18 +66,18 @@ attention_after (Some s) attention = attention
 attention_after None attention = false
 
 -- all the 18 bytes that REQUEST SENSE would give now
-unfoldable pub sense_now : Plain → List ℕ
+unfoldable pub sense_now : UnitState → List ℕ
 sense_now u = sense_data (sense_to_give u.sense u.attention)
 
 -- REQUEST SENSE gives the sense, cut to the length, and removes it
-abbrev pub sensed : Plain → ℕ → Performed
+abbrev pub sensed : UnitState → ℕ → Performed
 sensed u len = record {
   unit = record { disk = u.disk; sense = None; attention = attention_after u.sense u.attention };
   answer = record { status = Good; bytes = take len (sense_now u) };
 }
 
 -- all these blocks are the unit's
-unfoldable pub holds : Plain → ℕ → ℕ → Bool
+unfoldable pub holds : UnitState → ℕ → ℕ → Bool
 holds u lba blocks = nat_le (lba + blocks) (blocks_of u)
 
 -- the bytes of these blocks
@@ -89,12 +89,12 @@ unfoldable pub stored : List ℕ → ℕ → List ℕ → List ℕ
 stored disk at bytes = take at disk ++ (bytes ++ drop (at + length bytes) disk)
 
 -- a transfer of blocks that are all the unit's, or of one that isn't
-abbrev pub transferred : Bool → Plain → List ℕ → List ℕ → Performed
+abbrev pub transferred : Bool → UnitState → List ℕ → List ℕ → Performed
 transferred true u disk bytes = good u disk bytes
 transferred false u disk bytes = checked u (illegal 0x21)
 
 -- rule 4: a command without attention
-abbrev pub ordinary : Plain → Cdb → List ℕ → Performed
+abbrev pub ordinary : UnitState → Cdb → List ℕ → Performed
 ordinary u TestUnitReady received = good u u.disk []
 ordinary u (RequestSense len) received = sensed u len
 ordinary u (Read lba blocks six) received = transferred (holds u lba blocks) u u.disk (blocks_at u.disk lba blocks)
@@ -105,13 +105,13 @@ ordinary u BadField received = checked u (illegal 0x24)
 ordinary u Other received = checked u (illegal 0x20)
 
 -- rule 3: a set attention is told in place of performing, and cleared
-abbrev pub attended : Bool → Plain → Cdb → List ℕ → Performed
+abbrev pub attended : Bool → UnitState → Cdb → List ℕ → Performed
 attended true u c received = checked u reset_occurred
 attended false u c received = ordinary u c received
 
 -- rules 1 and 2: INQUIRY leaves the attention, and REQUEST SENSE goes before it; every other command meets it first.
 -- `received` are the bytes that a write has received
-unfoldable pub perform : Plain → Cdb → List ℕ → Performed
+unfoldable pub perform : UnitState → Cdb → List ℕ → Performed
 perform u (Inquiry len) received = good u u.disk (take len inquiry_data)
 perform u (RequestSense len) received = sensed u len
 perform u c received = attended u.attention u c received
@@ -125,5 +125,5 @@ where_good Conflict n = no_data
 where_good QueueFull n = no_data
 
 -- which way and how many bytes the unit would move now; what is received plays no part in the status
-unfoldable pub wants_now : Plain → Cdb → Need
+unfoldable pub wants_now : UnitState → Cdb → Need
 wants_now u c = where_good (perform u c []).answer.status (need_of c)

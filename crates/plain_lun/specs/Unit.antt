@@ -7,13 +7,13 @@ use Rattle.rig_types.specs.declared.rig.Pattern.TheVariants.{Zero, Count}
 use Rattle.plain_lun.specs.declared.sense.SenseCode.{SenseCode}
 
 -- a plain unit: the bytes of its disk, an optional sense, and whether its attention is set
-pub record Plain : Type 0 where
+pub record UnitState : Type 0 where
   pub disk : List ℕ
   pub sense : Option SenseCode
   pub attention : Bool
 
 -- the number of its blocks, which have 512 bytes
-abbrev pub blocks_of : Plain → ℕ
+abbrev pub blocks_of : UnitState → ℕ
 blocks_of u = length u.disk / 512
 
 -- byte i of block b
@@ -26,5 +26,5 @@ abbrev pub filled_disk : Pattern → ℕ → List ℕ
 filled_disk pattern n = map (λ k. pattern_byte pattern (k / 512) (k % 512)) (range_with_len 0 n)
 
 -- a unit as it is opened: so many blocks of the pattern, no sense, and (own) no attention
-abbrev pub opened : ℕ → Pattern → Plain
+abbrev pub opened : ℕ → Pattern → UnitState
 opened blocks pattern = record { disk = filled_disk pattern (512 * blocks); sense = None; attention = false }

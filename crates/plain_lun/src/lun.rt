@@ -1,7 +1,7 @@
 //! A unit: what it holds, and its opening.
 
 ghost use Rattle.std.specs.Prelude.{◌≡◌, ◌*◌, ◌<◌, ◌≤◌, length, IfOk};
-ghost use Rattle.plain_lun.specs.Unit.{Plain, blocks_of, opened, filled_disk, pattern_byte};
+ghost use Rattle.plain_lun.specs.Unit.{UnitState, blocks_of, opened, filled_disk, pattern_byte};
 ghost use Rattle.plain_lun.specs.Performing.{blocks_at, sense_now, sense_to_give};
 
 use crate::sense::SenseCode;
@@ -21,7 +21,7 @@ pub struct Lun {
 }
 
 impl Model for Lun {
-    ghost Value = { Plain };
+    ghost Value = { UnitState };
 
     ghost view = { λ u. record { disk = u.disk.items; sense = u.sense; attention = u.attention } };
 

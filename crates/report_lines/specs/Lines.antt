@@ -59,5 +59,5 @@ abbrev pub buffer_text : Direction → List ℕ → List ℕ
 buffer_text direction.In bytes = data_text bytes
 buffer_text _ bytes = []
 
-abbrev pub report_text : ℕ → ℕ → Direction → Report → List ℕ
-report_text target lun direction r = report_line target lun r ++ sense_line r.sense ++ buffer_text direction r.bytes
+abbrev pub report_part : ℕ → ℕ → Direction → Report → List ℕ
+report_part target lun direction r = report_line target lun r ++ sense_line r.sense ++ buffer_text direction r.bytes

@@ -2,7 +2,7 @@
 //! The text of one report: its line, its sense where there is one, and the buffer of a command that reads, in rows
 //! of 32 bytes. The work is linear in the bytes.
 
-ghost use Rattle.report_lines.specs.Lines.{buffer_text, data_text, line_back, line_front, outcome_word, report_line, report_text, sense_line, status_text};
+ghost use Rattle.report_lines.specs.Lines.{buffer_text, data_text, line_back, line_front, outcome_word, report_line, report_part, sense_line, status_text};
 ghost use Rattle.std.specs.Prelude.{◌≡◌, ◌++◌, IfOk, OnOk, string_bytes};
 
 mod hex;
@@ -21,7 +21,7 @@ pub fn report_lines(
     direction: Direction,
     report: &Report,
 ) -> Result<Bytes, AllocError>
-    ensures { IfOk result (λ text. text ≡ report_text target lun direction report.now) }
+    ensures { IfOk result (λ text. text ≡ report_part target lun direction report.now) }
 {
     let mut text = Vec::new(alloc);
     push_line(alloc, &mut text, target, lun, report)?;

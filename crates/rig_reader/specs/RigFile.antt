@@ -144,18 +144,18 @@ rig_keys version = version_key ∷ retries_key ∷ step_limit_key ∷ autosense_
 -- ---- what the file says, and what is wrong with it
 
 -- a rig without the proof that it holds
-pub record PlainRig : Type 0 where
+pub record RigData : Type 0 where
   pub version : ℕ
   pub units : List Unit
   pub retries : ℕ
   pub step_limit : ℕ
   pub autosense : Bool
 
-abbrev pub plain : Rig → PlainRig
+abbrev pub plain : Rig → RigData
 plain r = record { version = r.version; units = r.units; retries = r.retries; step_limit = r.step_limit; autosense = r.autosense }
 
 -- the rig that a table spells, where nothing is wrong with it
-abbrev pub rig_of : Members → PlainRig
+abbrev pub rig_of : Members → RigData
 rig_of ms =
     let version = value_of version_key ms in
     record {

@@ -8,4 +8,4 @@ mod bytes;
 mod choice;
 
 pub use bytes::{byte_for, heard, phase_of, sent, takes, took};
-pub use choice::strayed;
+pub use choice::chosen;

@@ -3,10 +3,10 @@ use Rattle.std.specs.Prelude.{ℕ, List, [], unwrap_or}
 use Rattle.std.specs.List.{All}
 use Rattle.scsi_words.specs.declared.phases.kinds.Direction.TheVariants.{None as NoData}
 use Rattle.rig_types.specs.declared.report.Report.{Report}
-use Rattle.plain_lun.specs.Unit.{Plain, opened as unit_opened}
-use Rattle.unit_law.specs.Request.{PlainRequest}
+use Rattle.plain_lun.specs.Unit.{UnitState, opened as unit_opened}
+use Rattle.unit_law.specs.Request.{RequestData}
 use Rattle.unit_law.specs.Log.{View, view_of}
-use Rattle.unit_law.specs.Report.{Setting as UnitSetting, Fits, SenseFits}
+use Rattle.unit_law.specs.Report.{UnitSetting, Fits, SenseFits}
 use Rattle.desk_law.specs.Desk.{ticket, unit}
 use Rattle.world_law.specs.World.{Setting, World, IsSetting, request_at, log_of}
 use Rattle.world_law.specs.Opening.{opened}
@@ -14,14 +14,14 @@ use Rattle.world_law.specs.Runs.{Moment, IsRun, last}
 use Rattle.run_law.specs.History.{history}
 
 -- the request of each ticket: that of its line
-abbrev pub no_request : PlainRequest
+abbrev pub no_request : RequestData
 no_request = record { unit = 0; cdb = []; segments = []; direction = NoData; bytes = [] }
 
-abbrev pub request_of : Setting → World → ℕ → PlainRequest
+abbrev pub request_of : Setting → World → ℕ → RequestData
 request_of g w t = unwrap_or (request_at g (ticket w.desk t).line) no_request
 
 -- a unit at the opening, and what the rig says of it
-abbrev pub plain_opened : World → ℕ → Plain
+abbrev pub plain_opened : World → ℕ → UnitState
 plain_opened w u = unit_opened (unit w.desk u).blocks (unit w.desk u).pattern
 
 abbrev pub unit_setting : Setting → World → ℕ → UnitSetting

@@ -1,7 +1,7 @@
 -- The history of one ticket in a run, by which its report is judged: a fold over the changes, by differences of what the log says (own).
 use Rattle.std.specs.Prelude.{ℕ, ◌+◌, ◌-◌, ◌&&◌, ◌||◌, nat_lt, not, Bool, true, false, List, fold}
 use Rattle.unit_law.specs.Log.{Tally, tally}
-use Rattle.unit_law.specs.Report.{Course as TicketHistory}
+use Rattle.unit_law.specs.Report.{TicketHistory}
 use Rattle.desk_law.specs.Desk.{ticket, unit, lives}
 use Rattle.world_law.specs.World.{Setting, World, log_of}
 use Rattle.world_law.specs.Runs.{Moment}
@@ -35,14 +35,14 @@ module _ (g : Setting) where
     clears = h.clears + count_if (is_under_way c.before t) (after.clears - before.clears);
     bus_reset = h.bus_reset || (resets_bus g c && (nat_lt 0 before.ends && is_live c.before t));
     outside = h.outside + count_if (not (is_live c.before t)) (entries_of after - entries_of before);
-    stray_clears = h.stray_clears + count_if (not (resets_bus g c || resets_device g (unit c.before.desk u).target c)) (after.clears - before.clears);
+    uncaused_clears = h.uncaused_clears + count_if (not (resets_bus g c || resets_device g (unit c.before.desk u).target c)) (after.clears - before.clears);
   }
 
   abbrev pub noted : (u t : ℕ) → TicketHistory → Change → TicketHistory
   noted u t h c = noted_by u t (tally_in c.before u t) (tally_in c.moment.after u t) h c
 
   abbrev pub no_history : TicketHistory
-  no_history = record { marked = false; clears = 0; bus_reset = false; outside = 0; stray_clears = 0 }
+  no_history = record { marked = false; clears = 0; bus_reset = false; outside = 0; uncaused_clears = 0 }
 
   -- in a run from a world on
   unfoldable pub history : (u t : ℕ) → World → List Moment → TicketHistory

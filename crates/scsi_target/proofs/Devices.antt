@@ -6,7 +6,7 @@ use Rattle.std.proofs.lemmas.List.{length-set}
 use Rattle.std.proofs.lemmas.Option.{slice_get-map}
 use Rattle.unit_law.proofs.Views.{same_or_not}
 use Rattle.unit_law.specs.declared.entry.LogEntry.{LogEntry}
-use Rattle.unit_log.specs.Journal.{Journal}
+use Rattle.unit_log.specs.LogState.{LogState}
 use Rattle.target_law.specs.Sound.{IsSound}
 use Rattle.target_law.specs.Bytes.{Connection}
 use Rattle.unit_tasks.specs.declared.queued.QueuedUnit.{QueuedUnit}
@@ -14,15 +14,15 @@ use Rattle.target_law.specs.Target.{LogicalUnit}
 use Rattle.target_law.specs.Calls.{slot_is_rogue}
 use Rattle.scsi_target.specs.Slots.{slot_of, At}
 use Rattle.scsi_target.specs.Views.{busy, IsSlot, IsConnected, IsLinked, IsDevice}
-use Rattle.scsi_target.specs.declared.link.Link.{Link as HeldLink}
-use Rattle.scsi_target.specs.declared.link.Link.TheVariants as held
+use Rattle.scsi_target.specs.declared.connection_state.ConnectionState.{ConnectionState as HeldState}
+use Rattle.scsi_target.specs.declared.connection_state.ConnectionState.TheVariants as held
 use Rattle.scsi_target.proofs.Places.{place_set, place_other, within}
 
 same_some : (q r : QueuedUnit) → Some (Some q) ≡ Some (Some r) → q ≡ r
 same_some q r e = cc
 
 -- a unit's place is as before where as many tasks of its LUN are connected
-slot_keeps : (breaks : Bool) (old new : HeldLink) (place : ℕ) (q : QueuedUnit) → busy new place ≡ busy old place → IsSlot breaks old place q → IsSlot breaks new place q
+slot_keeps : (breaks : Bool) (old new : HeldState) (place : ℕ) (q : QueuedUnit) → busy new place ≡ busy old place → IsSlot breaks old place q → IsSlot breaks new place q
 slot_keeps breaks old new place q b i = record {
   lun = i.lun;
   unit = i.unit;
@@ -33,7 +33,7 @@ slot_keeps breaks old new place q b i = record {
   log = i.log;
 }
 
-pub slot_after_set : (slots : List (Option QueuedUnit)) (old new : HeldLink) (breaks : Bool) (lun : ℕ) (q : QueuedUnit) → ((k : ℕ) (p : QueuedUnit) → slice_get slots k ≡ Some (Some p) → IsSlot breaks old k p)
+pub slot_after_set : (slots : List (Option QueuedUnit)) (old new : HeldState) (breaks : Bool) (lun : ℕ) (q : QueuedUnit) → ((k : ℕ) (p : QueuedUnit) → slice_get slots k ≡ Some (Some p) → IsSlot breaks old k p)
     → lun < length slots → IsSlot breaks new lun q → ((k : ℕ) → k ≢ lun → busy new k ≡ busy old k)
     → (k : ℕ) (p : QueuedUnit) → slice_get (slice_set slots lun (Some q)) k ≡ Some (Some p) → (k ≡ lun) ⊎ (k ≢ lun) → IsSlot breaks new k p
 slot_after_set slots old new breaks lun q all l s b k p e (inl same) =
@@ -78,7 +78,7 @@ known_by slots true lun q e h = any_at slot_is_rogue (map slot_of slots) lun (sl
 known_by slots false lun q e h = none_any slot_is_rogue (map slot_of slots) (λ i x f. none_in slots i x (slice_get slots i) refl h f)
 
 -- one unit has changed, and the link
-pub device_set : (count : ℕ) (slots : List (Option QueuedUnit)) (old new : HeldLink) (breaks : Bool) (lun : ℕ) (q : QueuedUnit) → IsDevice count slots old breaks → lun < length slots
+pub device_set : (count : ℕ) (slots : List (Option QueuedUnit)) (old new : HeldState) (breaks : Bool) (lun : ℕ) (q : QueuedUnit) → IsDevice count slots old breaks → lun < length slots
     → IsSlot breaks new lun q → ((k : ℕ) → k ≢ lun → busy new k ≡ busy old k) → IsLinked new (slice_set slots lun (Some q)) breaks → IsDevice count (slice_set slots lun (Some q)) new breaks
 device_set count slots old new breaks lun q i l s b n = record {
   counted = i.counted;
@@ -89,7 +89,7 @@ device_set count slots old new breaks lun q i l s b n = record {
 }
 
 -- the link alone has changed
-pub device_relinked : (count : ℕ) (slots : List (Option QueuedUnit)) (old new : HeldLink) (breaks : Bool) → IsDevice count slots old breaks → ((k : ℕ) → busy new k ≡ busy old k) → IsLinked new slots breaks
+pub device_relinked : (count : ℕ) (slots : List (Option QueuedUnit)) (old new : HeldState) (breaks : Bool) → IsDevice count slots old breaks → ((k : ℕ) → busy new k ≡ busy old k) → IsLinked new slots breaks
     → IsDevice count slots new breaks
 device_relinked count slots old new breaks i b n = record {
   counted = i.counted;
@@ -109,29 +109,29 @@ pub at_set : (slots : List (Option QueuedUnit)) (lun k : ℕ) (q : QueuedUnit) (
 at_set slots lun k q P l a f = at_by slots lun k q P l a f (same_or_not k lun)
 
 -- the link holds on, where a connected task of the changed unit does
-pub linked_set : (slots : List (Option QueuedUnit)) (link : HeldLink) (breaks : Bool) (lun : ℕ) (q : QueuedUnit) → lun < length slots → IsLinked link slots breaks
-    → ((c : Connection) → link ≡ held.Working c → c.lun ≡ lun → IsConnected breaks c q) → IsLinked link (slice_set slots lun (Some q)) breaks
-linked_set slots held.Free breaks lun q l i f = i
-linked_set slots (held.Greeted heard) breaks lun q l i f = i
-linked_set slots (held.Commanded n block) breaks lun q l i f = (i.0, i.1, at_set slots lun n.lun q (λ p. Unit {0}) l i.2 (λ e. tt))
-linked_set slots (held.Working c) breaks lun q l i f = at_set slots lun c.lun q (IsConnected breaks c) l i (f c refl)
-linked_set slots (held.Straying s n) breaks lun q l i f = i
+pub linked_set : (slots : List (Option QueuedUnit)) (link : HeldState) (breaks : Bool) (lun : ℕ) (q : QueuedUnit) → lun < length slots → IsLinked link slots breaks
+    → ((c : Connection) → link ≡ held.TaskConnected c → c.lun ≡ lun → IsConnected breaks c q) → IsLinked link (slice_set slots lun (Some q)) breaks
+linked_set slots held.BusFree breaks lun q l i f = i
+linked_set slots (held.Selected heard) breaks lun q l i f = i
+linked_set slots (held.TakingCommand n block) breaks lun q l i f = (i.0, i.1, at_set slots lun n.lun q (λ p. Unit {0}) l i.2 (λ e. tt))
+linked_set slots (held.TaskConnected c) breaks lun q l i f = at_set slots lun c.lun q (IsConnected breaks c) l i (f c refl)
+linked_set slots (held.RogueConnected s n) breaks lun q l i f = i
 
-pub same_link : (slots : List (Option QueuedUnit)) (link : HeldLink) (breaks : Bool) (c : Connection) → IsLinked link slots breaks → link ≡ held.Working c → At slots c.lun (IsConnected breaks c)
+pub same_link : (slots : List (Option QueuedUnit)) (link : HeldState) (breaks : Bool) (c : Connection) → IsLinked link slots breaks → link ≡ held.TaskConnected c → At slots c.lun (IsConnected breaks c)
 same_link slots link breaks c i e = subst (λ l. IsLinked l slots breaks) e i
 
 one_unit : (slots : List (Option QueuedUnit)) (k lun : ℕ) (p q : QueuedUnit) → slice_get slots k ≡ Some (Some p) → slice_get slots lun ≡ Some (Some q) → k ≡ lun → p ≡ q
 one_unit slots k lun p q e f same = same_some p q (sym e ∙ ap (λ x. slice_get slots x) same ∙ f)
 
 -- the link holds on, where a task that is connected to the old unit is to the new one
-pub linked_by : (slots : List (Option QueuedUnit)) (link : HeldLink) (breaks : Bool) (lun : ℕ) (old new : QueuedUnit) → slice_get slots lun ≡ Some (Some old) → IsLinked link slots breaks
+pub linked_by : (slots : List (Option QueuedUnit)) (link : HeldState) (breaks : Bool) (lun : ℕ) (old new : QueuedUnit) → slice_get slots lun ≡ Some (Some old) → IsLinked link slots breaks
     → ((c : Connection) → IsConnected breaks c old → IsConnected breaks c new) → IsLinked link (slice_set slots lun (Some new)) breaks
 linked_by slots link breaks lun old new e i f =
     linked_set slots link breaks lun new (within slots lun old e) i (λ c is same.
     let a = same_link slots link breaks c i is in f c (subst (IsConnected breaks c) (one_unit slots c.lun lun a.0 old a.1 e same) a.2))
 
 -- a unit whose log has the same entries
-pub connected_log : (breaks : Bool) (c : Connection) (q : QueuedUnit) (j : Journal) → j.entries ≡ q.core.log.entries → IsConnected breaks c q
+pub connected_log : (breaks : Bool) (c : Connection) (q : QueuedUnit) (j : LogState) → j.entries ≡ q.core.log.entries → IsConnected breaks c q
     → IsConnected breaks c (record { rig = q.rig; core = record { lun = q.core.lun; log = j }; tasks = q.tasks })
 connected_log breaks c q j e h = record {
   keeps = h.keeps;

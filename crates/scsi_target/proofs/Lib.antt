@@ -5,7 +5,7 @@ pub mod Opening
 pub mod Moving
 pub mod Acting
 pub mod Reselecting
-pub mod Partings
+pub mod TaskExits
 pub mod Parted
 pub mod Acks
 pub mod Begins

@@ -14,7 +14,7 @@ use Rattle.target_law.specs.Devices.{device_opened}
 use Rattle.scsi_target.specs.Devices.{IsOneTarget, first_is_rogue}
 use Rattle.scsi_target.specs.Slots.{slot_of, room_of}
 use Rattle.scsi_target.specs.Views.{IsSlot, IsDevice, device_of}
-use Rattle.scsi_target.specs.declared.link.Link.TheVariants as held
+use Rattle.scsi_target.specs.declared.connection_state.ConnectionState.TheVariants as held
 use Rattle.scsi_target.proofs.Places.{place_set, units_with}
 use Rattle.scsi_target.proofs.Devices.{slot_after_set, known_by}
 use Rattle.unit_law.proofs.Views.{same_or_not}
@@ -34,7 +34,7 @@ pub record Opens (units : List RigUnit) (count : ℕ) (slots : List (Option Queu
   pub eight : length slots ≡ 8
   pub units_are : map slot_of slots ≡ fold adds_unit (replicate 8 None) (take n units)
   pub rooms_are : map room_of slots ≡ replicate 8 0
-  pub slots_are : (place : ℕ) (q : QueuedUnit) → slice_get slots place ≡ Some (Some q) → IsSlot (first_is_rogue units) held.Free place q
+  pub slots_are : (place : ℕ) (q : QueuedUnit) → slice_get slots place ≡ Some (Some q) → IsSlot (first_is_rogue units) held.BusFree place q
   pub known : ((n ≡ 0) × (list_any slot_is_rogue (map slot_of slots) ≡ false)) ⊎ (list_any slot_is_rogue (map slot_of slots) ≡ first_is_rogue units)
 
 pub opens_start : (units : List RigUnit) (count : ℕ) (slots : List (Option QueuedUnit)) → count ≡ 8 → slots ≡ no_slots → Opens units count slots 0
@@ -76,7 +76,7 @@ rooms_more slots lun q r h = map-set room_of slots lun (Some q) ∙ ap (λ x. sl
 
 -- a unit at its opening in its place
 slot_opened : (version : ℕ) (breaks : Bool) (q : QueuedUnit) (r : RigUnit) → IsUnit version r → r.rogue ≡ breaks → unit_of q ≡ unit_opened r → q.tasks.idle ≡ r.depth → q.tasks.depth ≡ r.depth
-    → q.core.log.room ≡ 0 → IsSlot breaks held.Free r.lun q
+    → q.core.log.room ≡ 0 → IsSlot breaks held.BusFree r.lun q
 slot_opened version breaks q r u b e idle depth room =
     let rig : q.rig ≡ r = ap (λ (l : LogicalUnit). l.rig) e in
     let none = ap (λ (l : LogicalUnit). l.tasks) e in
@@ -104,8 +104,8 @@ opens_more version units count slots n d q i o l e room idle depth =
     let r : RigUnit = slice_index_or units n d in
     let u : IsUnit version r = i.in_range n d l in
     let lun_in : r.lun < length slots = let a = u.in_range.lun in let b = o.eight in omega arith in
-    let here : IsSlot (first_is_rogue units) held.Free r.lun q = slot_opened version (first_is_rogue units) q r u (rogue_as_first version units n d i l) e idle depth room in
-    let all = λ (k : ℕ) (p : QueuedUnit) (g : slice_get (placed slots r.lun q) k ≡ Some (Some p)). slot_after_set slots held.Free held.Free (first_is_rogue units) r.lun q o.slots_are lun_in here (λ k d. refl) k p g (same_or_not k r.lun) in
+    let here : IsSlot (first_is_rogue units) held.BusFree r.lun q = slot_opened version (first_is_rogue units) q r u (rogue_as_first version units n d i l) e idle depth room in
+    let all = λ (k : ℕ) (p : QueuedUnit) (g : slice_get (placed slots r.lun q) k ≡ Some (Some p)). slot_after_set slots held.BusFree held.BusFree (first_is_rogue units) r.lun q o.slots_are lun_in here (λ k d. refl) k p g (same_or_not k r.lun) in
     record {
       counted = o.counted;
       eight = length-set slots r.lun (Some q) ∙ o.eight;
@@ -124,7 +124,7 @@ known_all : (units : List RigUnit) (b : Bool) (n : ℕ) → length units ≤ n �
 known_all units b n l (inl p) = let e = p.0 in p.1 ∙ sym (none_first units (omega arith))
 known_all units b n l (inr e) = e
 
-pub opens_device : (units : List RigUnit) (count : ℕ) (slots : List (Option QueuedUnit)) (n : ℕ) → Opens units count slots n → length units ≤ n → IsDevice count slots held.Free (first_is_rogue units)
+pub opens_device : (units : List RigUnit) (count : ℕ) (slots : List (Option QueuedUnit)) (n : ℕ) → Opens units count slots n → length units ≤ n → IsDevice count slots held.BusFree (first_is_rogue units)
 opens_device units count slots n o l = record {
   counted = o.counted;
   eight = o.eight;
@@ -139,6 +139,6 @@ take_all (suc n) [] l = refl
 take_all zero (x ∷ xs) l = let f : ⊥ = omega arith in absurd f
 take_all (suc n) (x ∷ xs) l = ap (λ ys. x ∷ ys) (take_all n xs (omega arith))
 
-pub opens_state : (units : List RigUnit) (count : ℕ) (slots : List (Option QueuedUnit)) (n : ℕ) → Opens units count slots n → length units ≤ n → device_of slots held.Free ≡ device_opened units
+pub opens_state : (units : List RigUnit) (count : ℕ) (slots : List (Option QueuedUnit)) (n : ℕ) → Opens units count slots n → length units ≤ n → device_of slots held.BusFree ≡ device_opened units
 unfolding target_opened
 opens_state units count slots n o l = rw o.rooms_are rw o.units_are rw (take_all n units l) refl

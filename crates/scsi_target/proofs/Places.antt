@@ -13,7 +13,7 @@ use Rattle.unit_tasks.specs.Units.{unit_of}
 use Rattle.unit_tasks.proofs.Drops.{length-unit_reset}
 use Rattle.target_law.specs.Devices.{DeviceState, lie_within, reserved_for, device_reserved}
 use Rattle.scsi_target.specs.Views.{link_of, device_of, IsDevice}
-use Rattle.scsi_target.specs.declared.link.Link.{Link as HeldLink}
+use Rattle.scsi_target.specs.declared.connection_state.ConnectionState.{ConnectionState as HeldState}
 use Rattle.scsi_target.specs.Slots.{slot_of, room_of, At, slot_after, all_can_reset}
 
 -- the unit of a LUN that is there
@@ -81,7 +81,7 @@ back slots lun P q e h = subst (λ x. IsThere x P) (sym (unit_is slots lun _ e))
 pub read_place : (slots : List (Option QueuedUnit)) (lun : ℕ) (q : QueuedUnit) (o : Option QueuedUnit) → slice_get slots lun ≡ Some (Some q) → o ≡ slice_index_or slots lun o → o ≡ Some q
 read_place slots lun q o e h = h ∙ get_or_from_slice_get slots lun (Some q) o e
 
-pub in_range : (count : ℕ) (slots : List (Option QueuedUnit)) (link : HeldLink) (breaks : Bool) (lun : ℕ) (q : QueuedUnit) → IsDevice count slots link breaks
+pub in_range : (count : ℕ) (slots : List (Option QueuedUnit)) (link : HeldState) (breaks : Bool) (lun : ℕ) (q : QueuedUnit) → IsDevice count slots link breaks
     → slice_get slots lun ≡ Some (Some q) → lun < count
 in_range count slots link breaks lun q i e = let a = i.counted in let b = i.eight in let l = slice_get_within slots lun (Some q) e in omega arith
 
@@ -102,11 +102,11 @@ place_other (x ∷ xs) (suc lun) zero o d = refl
 place_other (x ∷ xs) (suc lun) (suc k) o d = place_other xs lun k o (λ e. d (ap suc e))
 
 -- the same of a device whose state is seen
-pub there_in : (d : DeviceState) (slots : List (Option QueuedUnit)) (link : HeldLink) → device_of slots link ≡ d → (lun : ℕ) (P : LogicalUnit → Type 0) → IsThere (unit_at d.target.units lun) P
+pub there_in : (d : DeviceState) (slots : List (Option QueuedUnit)) (link : HeldState) → device_of slots link ≡ d → (lun : ℕ) (P : LogicalUnit → Type 0) → IsThere (unit_at d.target.units lun) P
     → At slots lun (λ q. P (unit_of q))
 there_in d slots link v lun P h = there slots lun P (subst (λ (x : DeviceState). IsThere (unit_at x.target.units lun) P) (sym v) h)
 
-pub back_in : (d : DeviceState) (slots : List (Option QueuedUnit)) (link : HeldLink) → device_of slots link ≡ d → (lun : ℕ) (P : LogicalUnit → Type 0) (q : QueuedUnit)
+pub back_in : (d : DeviceState) (slots : List (Option QueuedUnit)) (link : HeldState) → device_of slots link ≡ d → (lun : ℕ) (P : LogicalUnit → Type 0) (q : QueuedUnit)
     → slice_get slots lun ≡ Some (Some q) → P (unit_of q) → IsThere (unit_at d.target.units lun) P
 back_in d slots link v lun P q e h = subst (λ (x : DeviceState). IsThere (unit_at x.target.units lun) P) v (back slots lun P q e h)
 
@@ -118,12 +118,12 @@ pub not_none : (slots : List (Option QueuedUnit)) (lun : ℕ) (q : QueuedUnit) (
 not_none slots lun q o e h i = let p : Some q ≡ None = sym (read_place slots lun q o e h) ∙ i in cc
 
 -- the unit that was read in a place
-pub read_unit : (d : DeviceState) (slots : List (Option QueuedUnit)) (link : HeldLink) → device_of slots link ≡ d → (lun : ℕ) (P : LogicalUnit → Type 0) (r : QueuedUnit) (o : Option QueuedUnit)
+pub read_unit : (d : DeviceState) (slots : List (Option QueuedUnit)) (link : HeldState) → device_of slots link ≡ d → (lun : ℕ) (P : LogicalUnit → Type 0) (r : QueuedUnit) (o : Option QueuedUnit)
     → IsThere (unit_at d.target.units lun) P → o ≡ slice_index_or slots lun o → o ≡ Some r → slice_get slots lun ≡ Some (Some r)
 read_unit d slots link v lun P r o h e i = let t = there_in d slots link v lun P h in t.1 ∙ ap (λ (q : QueuedUnit). Some (Some q)) (is_unit slots lun t.0 r o t.1 e i)
 
 -- the device once room was made in a unit's log
-pub reserved_is : (slots : List (Option QueuedUnit)) (link : HeldLink) (lun n : ℕ) (old new : QueuedUnit) → slice_get slots lun ≡ Some (Some old) → unit_of new ≡ unit_of old
+pub reserved_is : (slots : List (Option QueuedUnit)) (link : HeldState) (lun n : ℕ) (old new : QueuedUnit) → slice_get slots lun ≡ Some (Some old) → unit_of new ≡ unit_of old
     → new.core.log.room ≡ max old.core.log.room (length old.core.log.entries + n) → device_of (slice_set slots lun (Some new)) link ≡ device_reserved (device_of slots link) lun n
 unfolding device_reserved
 reserved_is slots link lun n old new e u r =
@@ -137,11 +137,11 @@ reserved_is slots link lun n old new e u r =
 pub place_read : (slots : List (Option QueuedUnit)) (lun : ℕ) (o p : Option QueuedUnit) → length slots ≡ 8 → lun < 8 → o ≡ slice_index_or slots lun o → o ≡ p → slice_get slots lun ≡ Some p
 place_read slots lun o p n l e i = subst (λ x. slice_get slots lun ≡ Some x) i (slice_get_read slots 8 lun o (sym n) l e)
 
-pub not_there : (d : DeviceState) (slots : List (Option QueuedUnit)) (link : HeldLink) → device_of slots link ≡ d → (lun : ℕ) (P : LogicalUnit → Type 0) → slice_get slots lun ≡ Some None → IsThere (unit_at d.target.units lun) P → ⊥
+pub not_there : (d : DeviceState) (slots : List (Option QueuedUnit)) (link : HeldState) → device_of slots link ≡ d → (lun : ℕ) (P : LogicalUnit → Type 0) → slice_get slots lun ≡ Some None → IsThere (unit_at d.target.units lun) P → ⊥
 not_there d slots link v lun P e h = let t = there_in d slots link v lun P h in let f : Some None ≡ Some (Some t.0) = sym e ∙ t.1 in cc
 
 -- the unit of a LUN by the place that was read
-pub unit_read : (d : DeviceState) (slots : List (Option QueuedUnit)) (link : HeldLink) → device_of slots link ≡ d → (lun : ℕ) (o : Option QueuedUnit) → length slots ≡ 8 → lun < 8
+pub unit_read : (d : DeviceState) (slots : List (Option QueuedUnit)) (link : HeldState) → device_of slots link ≡ d → (lun : ℕ) (o : Option QueuedUnit) → length slots ≡ 8 → lun < 8
     → o ≡ slice_index_or slots lun o → unit_at d.target.units lun ≡ slot_of o
 unit_read d slots link v lun o n l e = subst (λ (x : DeviceState). unit_at x.target.units lun ≡ slot_of o) v (unit_is slots lun (Some o) (place_read slots lun o o n l e refl))
 

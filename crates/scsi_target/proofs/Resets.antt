@@ -7,7 +7,7 @@ use Rattle.std.proofs.lemmas.List.{length-map}
 use Rattle.std.proofs.lemmas.Option.{slice_get-map}
 use Rattle.target_law.specs.Session.{Task}
 use Rattle.target_law.specs.Bytes.{Connection, away}
-use Rattle.target_law.specs.Target.{LogicalUnit, Free, Target, with_unit, by_tag, unit_left, unit_reset, slot_reset, parted, leaves, target_reset}
+use Rattle.target_law.specs.Target.{LogicalUnit, BusFree, Target, with_unit, by_tag, unit_left, unit_reset, slot_reset, parted, leaves, target_reset}
 use Rattle.target_law.specs.Calls.{slot_is_rogue}
 use Rattle.unit_tasks.specs.Units.{unit_of}
 use Rattle.unit_tasks.specs.Queue.{AllWait}
@@ -18,11 +18,11 @@ use Rattle.rig_types.specs.Ranges.{IsUnit}
 use Rattle.target_law.specs.Devices.{DeviceState, lie_within, where_room}
 use Rattle.scsi_target.specs.Slots.{slot_of, room_of, slot_after, slot_can_reset, all_can_reset}
 use Rattle.scsi_target.specs.Views.{busy, link_of, device_of, IsSlot, IsDevice}
-use Rattle.scsi_target.specs.Partings.{target_by}
+use Rattle.scsi_target.specs.TaskExits.{target_by}
 use Rattle.scsi_target.specs.Resettings.{with_task, reset_first, HasNoTask}
-use Rattle.scsi_target.specs.declared.link.Link.{Link as HeldLink}
-use Rattle.scsi_target.specs.declared.link.Link.TheVariants as held
-use Rattle.scsi_target.specs.declared.parting.Parting.TheVariants.{Left}
+use Rattle.scsi_target.specs.declared.connection_state.ConnectionState.{ConnectionState as HeldState}
+use Rattle.scsi_target.specs.declared.connection_state.ConnectionState.TheVariants as held
+use Rattle.scsi_target.specs.declared.task_exit.TaskExit.TheVariants.{Disconnected}
 use Rattle.scsi_target.proofs.Places.{units_with, rooms_stay, room_for_reset, units_reset, rooms_reset}
 use Rattle.target_law.proofs.Rigs.{rig-unit_reset}
 use Rattle.target_law.proofs.Rooms.{where_true, where_false}
@@ -102,7 +102,7 @@ tasks_reset u = refl
 none_wait : (q : QueuedUnit) (ks : List Task) → ks ≡ [] → AllWait q.core.lun ks
 none_wait q ks e = λ k d l. let n = ap length e in absurd (omega arith)
 
-slot_after_reset : (breaks : Bool) (link : HeldLink) (place : ℕ) (q : QueuedUnit) → IsSlot breaks link place q → busy link place ≡ 0 → can_reset q ≡ true → IsSlot breaks held.Free place (reset_by true q)
+slot_after_reset : (breaks : Bool) (link : HeldState) (place : ℕ) (q : QueuedUnit) → IsSlot breaks link place q → busy link place ≡ 0 → can_reset q ≡ true → IsSlot breaks held.BusFree place (reset_by true q)
 slot_after_reset breaks link place q s b r = record {
   lun = ap (λ x. x.lun) (rig-unit_reset (unit_of q)) ∙ s.lun;
   unit = subst (λ x. (version : ℕ) × IsUnit version x) (sym (rig-unit_reset (unit_of q))) s.unit;
@@ -113,11 +113,11 @@ slot_after_reset breaks link place q s b r = record {
   log = let n = length-unit_reset (unit_of q) in let l = le_of (length q.core.log.entries + reset_entries q.tasks.tasks) q.core.log.room r in omega arith;
 }
 
-slot_by : (slots : List (Option QueuedUnit)) (breaks : Bool) (link : HeldLink) (place : ℕ) (q : QueuedUnit) (o : Option (Option QueuedUnit)) → slice_get slots place ≡ o → option_map slot_after o ≡ Some (Some q)
-    → ((p : QueuedUnit) → slice_get slots place ≡ Some (Some p) → IsSlot breaks link place p) → busy link place ≡ 0 → all_can_reset slots ≡ true → IsSlot breaks held.Free place q
+slot_by : (slots : List (Option QueuedUnit)) (breaks : Bool) (link : HeldState) (place : ℕ) (q : QueuedUnit) (o : Option (Option QueuedUnit)) → slice_get slots place ≡ o → option_map slot_after o ≡ Some (Some q)
+    → ((p : QueuedUnit) → slice_get slots place ≡ Some (Some p) → IsSlot breaks link place p) → busy link place ≡ 0 → all_can_reset slots ≡ true → IsSlot breaks held.BusFree place q
 slot_by slots breaks link place q (Some (Some p)) e h s b a =
     let same : reset_by true p ≡ q = cc in
-    subst (IsSlot breaks held.Free place) same (slot_after_reset breaks link place p (s p e) b (all_at slots place p a e))
+    subst (IsSlot breaks held.BusFree place) same (slot_after_reset breaks link place p (s p e) b (all_at slots place p a e))
 slot_by slots breaks link place q (Some None) e h s b a = cc
 slot_by slots breaks link place q None e h s b a = cc
 
@@ -128,8 +128,8 @@ rogue_reset (None ∷ qs) = rogue_reset qs
 rogue_reset (Some q ∷ qs) = rw (ap (λ x. x.rogue) (rig-unit_reset (unit_of q))) rw (rogue_reset qs) refl
 
 -- the device after a reset
-pub device_reset : (count : ℕ) (slots : List (Option QueuedUnit)) (link : HeldLink) (breaks : Bool) → IsDevice count slots link breaks → ((k : ℕ) → busy link k ≡ 0) → all_can_reset slots ≡ true
-    → IsDevice count (map slot_after slots) held.Free breaks
+pub device_reset : (count : ℕ) (slots : List (Option QueuedUnit)) (link : HeldState) (breaks : Bool) → IsDevice count slots link breaks → ((k : ℕ) → busy link k ≡ 0) → all_can_reset slots ≡ true
+    → IsDevice count (map slot_after slots) held.BusFree breaks
 device_reset count slots link breaks i b a = record {
   counted = i.counted;
   eight = length-map slots slot_after ∙ i.eight;
@@ -138,69 +138,69 @@ device_reset count slots link breaks i b a = record {
   linked = tt;
 }
 
-pub none_busy : (link : HeldLink) → HasNoTask link → (k : ℕ) → busy link k ≡ 0
-none_busy held.Free h k = refl
-none_busy (held.Greeted heard) h k = refl
-none_busy (held.Commanded n block) h k = refl
-none_busy (held.Working c) h k = absurd h
-none_busy (held.Straying s n) h k = refl
+pub none_busy : (link : HeldState) → HasNoTask link → (k : ℕ) → busy link k ≡ 0
+none_busy held.BusFree h k = refl
+none_busy (held.Selected heard) h k = refl
+none_busy (held.TakingCommand n block) h k = refl
+none_busy (held.TaskConnected c) h k = absurd h
+none_busy (held.RogueConnected s n) h k = refl
 
-free_busy : (link : HeldLink) → link_of link ≡ Free → (k : ℕ) → busy link k ≡ 0
-free_busy held.Free e k = refl
-free_busy (held.Greeted heard) e k = cc
-free_busy (held.Commanded n block) e k = cc
-free_busy (held.Working c) e k = cc
-free_busy (held.Straying s n) e k = cc
+free_busy : (link : HeldState) → link_of link ≡ BusFree → (k : ℕ) → busy link k ≡ 0
+free_busy held.BusFree e k = refl
+free_busy (held.Selected heard) e k = cc
+free_busy (held.TakingCommand n block) e k = cc
+free_busy (held.TaskConnected c) e k = cc
+free_busy (held.RogueConnected s n) e k = cc
 
-pub no_task : (link : HeldLink) → ((c : Connection) → link ≡ held.Working c → ⊥) → HasNoTask link
-no_task held.Free f = tt
-no_task (held.Greeted heard) f = tt
-no_task (held.Commanded n block) f = tt
-no_task (held.Working c) f = f c refl
-no_task (held.Straying s n) f = tt
+pub no_task : (link : HeldState) → ((c : Connection) → link ≡ held.TaskConnected c → ⊥) → HasNoTask link
+no_task held.BusFree f = tt
+no_task (held.Selected heard) f = tt
+no_task (held.TakingCommand n block) f = tt
+no_task (held.TaskConnected c) f = f c refl
+no_task (held.RogueConnected s n) f = tt
 
 -- what a reset makes of the target
-reset_is : (t : Target) → target_reset t ≡ record { units = map slot_reset (parted t.link t).units; link = Free }
+reset_is : (t : Target) → target_reset t ≡ record { units = map slot_reset (parted t.link t).units; link = BusFree }
 unfolding target_reset
 reset_is t = refl
 
-without_is : (slots : List (Option QueuedUnit)) (link : HeldLink) → HasNoTask link → target_reset (device_of slots link).target ≡ record { units = map slot_reset (map slot_of slots); link = Free }
-without_is slots held.Free h = reset_is _
-without_is slots (held.Greeted heard) h = reset_is _
-without_is slots (held.Commanded n block) h = reset_is _
-without_is slots (held.Working c) h = absurd h
-without_is slots (held.Straying s n) h = reset_is _
+without_is : (slots : List (Option QueuedUnit)) (link : HeldState) → HasNoTask link → target_reset (device_of slots link).target ≡ record { units = map slot_reset (map slot_of slots); link = BusFree }
+without_is slots held.BusFree h = reset_is _
+without_is slots (held.Selected heard) h = reset_is _
+without_is slots (held.TakingCommand n block) h = reset_is _
+without_is slots (held.TaskConnected c) h = absurd h
+without_is slots (held.RogueConnected s n) h = reset_is _
 
-with_is : (slots : List (Option QueuedUnit)) (c : Connection) → target_reset (device_of slots (held.Working c)).target ≡ record { units = map slot_reset (target_by Left (device_of slots (held.Working c)).target c).units; link = Free }
+with_is : (slots : List (Option QueuedUnit)) (c : Connection) → target_reset (device_of slots (held.TaskConnected c)).target ≡ record { units = map slot_reset (target_by Disconnected (device_of slots (held.TaskConnected c)).target c).units; link = BusFree }
 with_is slots c = reset_is _
 
 -- the places after a reset, as the target sees them
-pub reset_state : (slots : List (Option QueuedUnit)) → device_of (map slot_after slots) held.Free ≡ record { target = record { units = map slot_reset (map slot_of slots); link = Free }; rooms = map room_of slots }
+pub reset_state : (slots : List (Option QueuedUnit)) → device_of (map slot_after slots) held.BusFree ≡ record { target = record { units = map slot_reset (map slot_of slots); link = BusFree }; rooms = map room_of slots }
 reset_state slots = state_same _ _ _ _ _ _ (units_reset slots) refl (rooms_reset slots)
 
-pub without_state : (slots : List (Option QueuedUnit)) (link : HeldLink) → HasNoTask link → all_can_reset slots ≡ true
-    → device_of (map slot_after slots) held.Free ≡ where_room (device_of slots link) (target_reset (device_of slots link).target)
+pub without_state : (slots : List (Option QueuedUnit)) (link : HeldState) → HasNoTask link → all_can_reset slots ≡ true
+    → device_of (map slot_after slots) held.BusFree ≡ where_room (device_of slots link) (target_reset (device_of slots link).target)
 without_state slots link h a =
     let d = device_of slots link in
     let is = without_is slots link h in
     reset_state slots ∙ ap (λ (t : Target). record { target = t; rooms = map room_of slots }) (sym is)
     ∙ sym (where_true (device_of slots link) (target_reset (device_of slots link).target) (ap (λ (t : Target). lie_within t.units (map room_of slots)) is ∙ room_for_reset slots ∙ a))
 
-pub without_room : (slots : List (Option QueuedUnit)) (link : HeldLink) → HasNoTask link → all_can_reset slots ≡ false
+pub without_room : (slots : List (Option QueuedUnit)) (link : HeldState) → HasNoTask link → all_can_reset slots ≡ false
     → device_of slots link ≡ where_room (device_of slots link) (target_reset (device_of slots link).target)
 without_room slots link h a =
     sym (where_false (device_of slots link) (target_reset (device_of slots link).target) (ap (λ (t : Target). lie_within t.units (map room_of slots)) (without_is slots link h) ∙ room_for_reset slots ∙ a))
 
 -- with a connected task among the others
 left_units : (slots : List (Option QueuedUnit)) (c : Connection) (q : QueuedUnit) → slice_get slots c.lun ≡ Some (Some q)
-    → target_by Left (device_of slots (held.Working c)).target c ≡ record { units = with_unit (map slot_of slots) c.lun (unit_left (unit_of q) c.task); link = Free }
-left_units slots c q e = on_there slots c.lun q (leaves (device_of slots (held.Working c)).target c) (device_of slots (held.Working c)).target e
+    → target_by Disconnected (device_of slots (held.TaskConnected c)).target c ≡ record { units = with_unit (map slot_of slots) c.lun (unit_left (unit_of q) c.task); link = BusFree }
+left_units slots c q e = on_there slots c.lun q (leaves (device_of slots (held.TaskConnected c)).target c) (device_of slots (held.TaskConnected c)).target e
 
 pub with_lies : (slots : List (Option QueuedUnit)) (c : Connection) (q : QueuedUnit) → slice_get slots c.lun ≡ Some (Some q)
-    → (all_can_reset slots && can_reset (with_task q c.task)) ≡ lie_within (target_reset (device_of slots (held.Working c)).target).units (map room_of slots)
+    → (all_can_reset slots && can_reset (with_task q c.task)) ≡ lie_within (target_reset (device_of slots (held.TaskConnected c)).target).units (map room_of slots)
 with_lies slots c q e =
     let news : List (Option QueuedUnit) = slice_set slots c.lun (Some (with_task q c.task)) in
-    let units : (target_by Left (device_of slots (held.Working c)).target c).units ≡ map slot_of news = ap (λ (t : Target). t.units) (left_units slots c q e) ∙ units_with slots c.lun (with_task q c.task) in
+    let units : (target_by Disconnected (device_of slots (held.TaskConnected c)).target c).units ≡ map slot_of news = ap (λ (t : Target). t.units) (left_units slots c q e) ∙ units_with slots c.lun (with_task q c.task) in
     let rooms : map room_of news ≡ map room_of slots = rooms_stay slots c.lun q (with_task q c.task) e refl in
     sym (ap (λ (t : Target). lie_within t.units (map room_of slots)) (with_is slots c)
     ∙ ap (λ (us : List (Option LogicalUnit)). lie_within (map slot_reset us) (map room_of slots)) units
@@ -208,36 +208,36 @@ with_lies slots c q e =
     ∙ room_for_reset news
     ∙ all_can_set slots c.lun q (with_task q c.task) e (room_without q c.task))
 
-left_state : (count : ℕ) (slots : List (Option QueuedUnit)) (c : Connection) → IsDevice count slots (held.Working c) false
-    → where_room (device_of slots (held.Working c)) (target_by Left (device_of slots (held.Working c)).target c) ≡ record { target = target_by Left (device_of slots (held.Working c)).target c; rooms = map room_of slots }
+left_state : (count : ℕ) (slots : List (Option QueuedUnit)) (c : Connection) → IsDevice count slots (held.TaskConnected c) false
+    → where_room (device_of slots (held.TaskConnected c)) (target_by Disconnected (device_of slots (held.TaskConnected c)).target c) ≡ record { target = target_by Disconnected (device_of slots (held.TaskConnected c)).target c; rooms = map room_of slots }
 left_state count slots c i =
     let q : QueuedUnit = i.linked.0 in
     let e : slice_get slots c.lun ≡ Some (Some q) = i.linked.1 in
-    let s : IsSlot false (held.Working c) c.lun q = i.slots_are c.lun q e in
-    where_true (device_of slots (held.Working c)) (target_by Left (device_of slots (held.Working c)).target c)
+    let s : IsSlot false (held.TaskConnected c) c.lun q = i.slots_are c.lun q e in
+    where_true (device_of slots (held.TaskConnected c)) (target_by Disconnected (device_of slots (held.TaskConnected c)).target c)
     (ap (λ (t : Target). lie_within t.units (map room_of slots)) (left_units slots c q e)
-    ∙ lie_by slots c.lun q (unit_left (unit_of q) c.task) (device_lies count slots (held.Working c) false i) e ∙ le_is _ _ s.log)
+    ∙ lie_by slots c.lun q (unit_left (unit_of q) c.task) (device_lies count slots (held.TaskConnected c) false i) e ∙ le_is _ _ s.log)
 
-left_link : (count : ℕ) (slots : List (Option QueuedUnit)) (c : Connection) → IsDevice count slots (held.Working c) false → (target_by Left (device_of slots (held.Working c)).target c).link ≡ Free
+left_link : (count : ℕ) (slots : List (Option QueuedUnit)) (c : Connection) → IsDevice count slots (held.TaskConnected c) false → (target_by Disconnected (device_of slots (held.TaskConnected c)).target c).link ≡ BusFree
 left_link count slots c i = ap (λ (t : Target). t.link) (left_units slots c i.linked.0 i.linked.1)
 
 -- what `part` has left
-module _ (count : ℕ) (slots news : List (Option QueuedUnit)) (c : Connection) (to : HeldLink) (i : IsDevice count slots (held.Working c) false)
-    (state : device_of news to ≡ where_room (device_of slots (held.Working c)) (target_by Left (device_of slots (held.Working c)).target c)) where
-  now : device_of news to ≡ record { target = target_by Left (device_of slots (held.Working c)).target c; rooms = map room_of slots }
+module _ (count : ℕ) (slots news : List (Option QueuedUnit)) (c : Connection) (to : HeldState) (i : IsDevice count slots (held.TaskConnected c) false)
+    (state : device_of news to ≡ where_room (device_of slots (held.TaskConnected c)) (target_by Disconnected (device_of slots (held.TaskConnected c)).target c)) where
+  now : device_of news to ≡ record { target = target_by Disconnected (device_of slots (held.TaskConnected c)).target c; rooms = map room_of slots }
   now = state ∙ left_state count slots c i
 
-  pub with_can : lie_within (target_reset (device_of slots (held.Working c)).target).units (map room_of slots) ≡ true → all_can_reset news ≡ true
+  pub with_can : lie_within (target_reset (device_of slots (held.TaskConnected c)).target).units (map room_of slots) ≡ true → all_can_reset news ≡ true
   with_can r =
       sym (room_for_reset news) ∙ ap (λ (d : DeviceState). lie_within (map slot_reset d.target.units) d.rooms) now
       ∙ sym (ap (λ (t : Target). lie_within t.units (map room_of slots)) (with_is slots c)) ∙ r
 
-  pub with_state : lie_within (target_reset (device_of slots (held.Working c)).target).units (map room_of slots) ≡ true
-      → device_of (map slot_after news) held.Free ≡ where_room (device_of slots (held.Working c)) (target_reset (device_of slots (held.Working c)).target)
+  pub with_state : lie_within (target_reset (device_of slots (held.TaskConnected c)).target).units (map room_of slots) ≡ true
+      → device_of (map slot_after news) held.BusFree ≡ where_room (device_of slots (held.TaskConnected c)) (target_reset (device_of slots (held.TaskConnected c)).target)
   with_state r =
-      reset_state news ∙ ap (λ (d : DeviceState). record { target = record { units = map slot_reset d.target.units; link = Free }; rooms = d.rooms }) now
+      reset_state news ∙ ap (λ (d : DeviceState). record { target = record { units = map slot_reset d.target.units; link = BusFree }; rooms = d.rooms }) now
       ∙ ap (λ (t : Target). record { target = t; rooms = map room_of slots }) (sym (with_is slots c))
-      ∙ sym (where_true (device_of slots (held.Working c)) (target_reset (device_of slots (held.Working c)).target) r)
+      ∙ sym (where_true (device_of slots (held.TaskConnected c)) (target_reset (device_of slots (held.TaskConnected c)).target) r)
 
   pub with_busy : (k : ℕ) → busy to k ≡ 0
   with_busy k = free_busy to (ap (λ (d : DeviceState). d.target.link) now ∙ left_link count slots c i) k

@@ -3,7 +3,7 @@ pub mod Slots
 pub mod Views
 pub mod Held
 pub mod Moves
-pub mod Partings
+pub mod TaskExits
 pub mod Beginnings
 pub mod Resettings
 pub mod Messages

@@ -5,8 +5,8 @@ use Rattle.target_law.specs.Target.{unit_left}
 use Rattle.unit_tasks.specs.Units.{unit_of, holding}
 use Rattle.unit_tasks.specs.declared.queued.QueuedUnit.{QueuedUnit}
 use Rattle.scsi_target.specs.Slots.{slot_after}
-use Rattle.scsi_target.specs.declared.link.Link.{Link as HeldLink}
-use Rattle.scsi_target.specs.declared.link.Link.TheVariants as held
+use Rattle.scsi_target.specs.declared.connection_state.ConnectionState.{ConnectionState as HeldState}
+use Rattle.scsi_target.specs.declared.connection_state.ConnectionState.TheVariants as held
 
 -- a unit with one more task among the others
 abbrev pub with_task : QueuedUnit → Task → QueuedUnit
@@ -19,6 +19,6 @@ reset_first (suc n) [] = []
 reset_first (suc n) (q ∷ slots) = slot_after q ∷ reset_first n slots
 
 -- no task is connected
-abbrev pub HasNoTask : HeldLink → Type 0
-HasNoTask (held.Working c) = ⊥
+abbrev pub HasNoTask : HeldState → Type 0
+HasNoTask (held.TaskConnected c) = ⊥
 HasNoTask _ = Unit {0}

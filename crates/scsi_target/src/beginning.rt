@@ -8,13 +8,13 @@ ghost use Rattle.target_law.specs.Calls.{is_whole, whole_by, link_takes, begun_w
 ghost use Rattle.unit_tasks.specs.Units.{unit_of};
 ghost use Rattle.scsi_target.specs.Beginnings.{makes_none, link_begun, HasPlaceFor};
 ghost use Rattle.scsi_target.specs.Devices.{HasPlace};
-ghost use Rattle.scsi_target.specs.Partings.{IsOnlyHere};
+ghost use Rattle.scsi_target.specs.TaskExits.{IsOnlyHere};
 ghost use Rattle.scsi_target.specs.Slots.{room_of, At};
 ghost use Rattle.scsi_target.specs.Views.{link_of, device_of, IsSlot, IsDevice};
-ghost use Rattle.scsi_target.specs.declared.link.Link.TheVariants as held;
+ghost use Rattle.scsi_target.specs.declared.connection_state.ConnectionState.TheVariants as held;
 
+use crate::connection_state::{Block, ConnectionState};
 use crate::device::Device;
-use crate::link::{Block, Link};
 use cdb_codec::{Cdb, need, read_cdb};
 use std::mem;
 use target_law::Nexus;
@@ -36,7 +36,7 @@ impl Device {
         requires place { IsSome ticket → HasPlace self.old }
         ensures { self.new ≡ record { target = target_begun self.old.target ticket; rooms = self.old.rooms } }
     {
-        let link = mem::replace(&mut self.link, Link::Free);
+        let link = mem::replace(&mut self.link, ConnectionState::BusFree);
         self.link = begun(&mut self.units, link, ticket);
     }
 
@@ -75,7 +75,11 @@ fn where_placed(place: bool, ticket: Option<u32>) -> Option<u32>
 }
 
 /// The link after the beginning of a task.
-fn begun(units: &mut Vec<Option<QueuedUnit>>, link: Link, ticket: Option<u32>) -> Link
+fn begun(
+    units: &mut Vec<Option<QueuedUnit>>,
+    link: ConnectionState,
+    ticket: Option<u32>,
+) -> ConnectionState
     requires device { (rogue : Bool) × IsDevice (vec_len units.old) units.old.items link rogue }
     requires whole { whole_by (link_of link) ≡ true }
     requires place { IsSome ticket → HasPlace (device_of units.old.items link) }
@@ -87,7 +91,7 @@ fn begun(units: &mut Vec<Option<QueuedUnit>>, link: Link, ticket: Option<u32>) -
         IsDevice (vec_len units.new) units.new.items result rogue }
 {
     match link {
-        Link::Commanded(nexus, block) => begin_where(units, nexus, block, ticket),
+        ConnectionState::TakingCommand(nexus, block) => begin_where(units, nexus, block, ticket),
         _ => unreachable!(),
     }
 }
@@ -98,29 +102,34 @@ fn begin_where(
     nexus: Nexus,
     block: Block,
     ticket: Option<u32>,
-) -> Link
-    requires device { IsDevice (vec_len units.old) units.old.items (held.Commanded nexus block) false }
+) -> ConnectionState
+    requires device { IsDevice (vec_len units.old) units.old.items (held.TakingCommand nexus block) false }
     requires whole { is_whole block.bytes.items ≡ true }
-    requires place { IsSome ticket → HasPlace (device_of units.old.items (held.Commanded nexus block)) }
+    requires place { IsSome ticket → HasPlace (device_of units.old.items (held.TakingCommand nexus block)) }
     ensures state { device_of units.new.items result ≡ record {
-      target = begun_with (device_of units.old.items (held.Commanded nexus block)).target nexus (cdb_of block.bytes.items) ticket;
+      target = begun_with (device_of units.old.items (held.TakingCommand nexus block)).target nexus (cdb_of block.bytes.items) ticket;
       rooms = map room_of units.old.items;
     } }
     ensures device { IsDevice (vec_len units.new) units.new.items result false }
 {
     match ticket {
         Some(ticket) => begin_at(units, nexus, &block, ticket),
-        None => Link::Free,
+        None => ConnectionState::BusFree,
     }
 }
 
 /// The link after the command of a nexus with a live ticket.
-fn begin_at(units: &mut Vec<Option<QueuedUnit>>, nexus: Nexus, block: &Block, ticket: u32) -> Link
-    requires device { IsDevice (vec_len units.old) units.old.items (held.Commanded nexus block.now) false }
+fn begin_at(
+    units: &mut Vec<Option<QueuedUnit>>,
+    nexus: Nexus,
+    block: &Block,
+    ticket: u32,
+) -> ConnectionState
+    requires device { IsDevice (vec_len units.old) units.old.items (held.TakingCommand nexus block.now) false }
     requires whole { is_whole block.now.bytes.items ≡ true }
     requires place { At units.old.items nexus.lun (λ q. HasPlaceFor nexus (unit_of q)) }
     ensures state { device_of units.new.items result ≡ record {
-      target = begun_with (device_of units.old.items (held.Commanded nexus block.now)).target nexus (cdb_of block.now.bytes.items) (Some ticket);
+      target = begun_with (device_of units.old.items (held.TakingCommand nexus block.now)).target nexus (cdb_of block.now.bytes.items) (Some ticket);
       rooms = map room_of units.old.items;
     } }
     ensures device { IsDevice (vec_len units.new) units.new.items result false }
@@ -132,8 +141,8 @@ fn begin_at(units: &mut Vec<Option<QueuedUnit>>, nexus: Nexus, block: &Block, ti
 }
 
 /// The link after the command of a unit's tag.
-fn begin(unit: &mut QueuedUnit, nexus: Nexus, block: &Block, ticket: u32) -> Link
-    requires slot { IsSlot false (held.Commanded nexus block.now) nexus.lun unit.old }
+fn begin(unit: &mut QueuedUnit, nexus: Nexus, block: &Block, ticket: u32) -> ConnectionState
+    requires slot { IsSlot false (held.TakingCommand nexus block.now) nexus.lun unit.old }
     requires whole { is_whole block.now.bytes.items ≡ true }
     requires place { HasPlaceFor nexus (unit_of unit.old) }
     requires lun { nexus.lun < 8 }
@@ -145,10 +154,10 @@ fn begin(unit: &mut QueuedUnit, nexus: Nexus, block: &Block, ticket: u32) -> Lin
 {
     let cdb = read_cdb(block.as_slice());
     if makes_none(&unit.tasks, nexus.tag, &cdb) {
-        return Link::Free;
+        return ConnectionState::BusFree;
     }
     let task = unit.begin(nexus.tag, ticket, cdb);
-    Link::Working(Connection::begin(nexus.lun, task))
+    ConnectionState::TaskConnected(Connection::begin(nexus.lun, task))
 }
 
 /// Whether no task is made of the command.

@@ -3,19 +3,19 @@
 ghost use Rattle.std.specs.Prelude.{◌≡◌, ◌<◌, ◌≤◌, false, length};
 ghost use Rattle.target_law.specs.Session.{Task, acted};
 ghost use Rattle.target_law.specs.Sound.{IsSound, IsWaiting};
-ghost use Rattle.target_law.specs.Strays.{strayed};
+ghost use Rattle.target_law.specs.RoguePhases.{rogue_chosen};
 ghost use Rattle.target_law.specs.Target.{session, unit_at, linked};
 ghost use Rattle.unit_tasks.specs.Units.{unit_of};
-ghost use Rattle.target_law.specs.Calls.{IsToChoose, is_straying, asked_by, link_or_free, candidates, selected_by, target_selected, target_reselected, target_acted};
+ghost use Rattle.target_law.specs.Calls.{IsToChoose, is_rogue_connected, asked_by, link_or_free, candidates, selected_by, target_selected, target_reselected, target_acted};
 ghost use Rattle.target_law.specs.Lawful.{CanOf, IsThere, May, Named};
 ghost use Rattle.target_law.specs.Devices.{where_room};
 ghost use Rattle.scsi_target.specs.Devices.{IsFree, IsPresent};
 ghost use Rattle.scsi_target.specs.Moves.{has_room, unit_moved, connection_moved};
 ghost use Rattle.scsi_target.specs.Views.{link_of};
 
+use crate::connection_state::{ConnectionState, MessageBuffer};
 use crate::device::Device;
-use crate::link::{Heard, Link};
-use target_law::{Move, NamePart, Nexus, Stray};
+use target_law::{Move, Nexus, ReselectByte, RoguePhase};
 use target_session::Connection;
 use unit_tasks::QueuedUnit;
 
@@ -43,16 +43,16 @@ impl Device {
         ensures { self.new ≡ record { target = target_reselected self.old.target lun n tag; rooms = self.old.rooms } }
     {
         if self.rogue {
-            let shown = Stray::Naming {
-                part: NamePart::Lun,
+            let shown = RoguePhase::Reselection {
+                part: ReselectByte::Identify,
                 sent: false,
             };
-            self.link = Link::Straying(shown, Some(Nexus { lun, tag }));
+            self.link = ConnectionState::RogueConnected(shown, Some(Nexus { lun, tag }));
             return;
         }
         if let Some(unit) = &mut self.units[lun as usize] {
             let task = unit.tasks.take_out(n as usize);
-            self.link = Link::Working(Connection::reselect(lun, task));
+            self.link = ConnectionState::TaskConnected(Connection::reselect(lun, task));
         }
     }
 
@@ -65,10 +65,11 @@ impl Device {
         ensures lawful { May self.now.target result }
     {
         match &self.link {
-            Link::Working(connection) => match &self.units[connection.lun() as usize] {
-                Some(unit) => connection.choose(&unit.core, unit.rig.refusals, word),
-                None => unreachable!(),
-            },
+            ConnectionState::TaskConnected(connection) =>
+                match &self.units[connection.lun() as usize] {
+                    Some(unit) => connection.choose(&unit.core, unit.rig.refusals, word),
+                    None => unreachable!(),
+                },
             _ => Move::Rogue { word },
         }
     }
@@ -81,10 +82,11 @@ impl Device {
         ensures { Named self.now.target result m.now }
     {
         match &self.link {
-            Link::Working(connection) => match &self.units[connection.lun() as usize] {
-                Some(unit) => connection.word_for(&unit.core, unit.rig.refusals, m),
-                None => unreachable!(),
-            },
+            ConnectionState::TaskConnected(connection) =>
+                match &self.units[connection.lun() as usize] {
+                    Some(unit) => connection.word_for(&unit.core, unit.rig.refusals, m),
+                    None => unreachable!(),
+                },
             _ => match *m {
                 Move::Rogue { word } => word,
                 _ => unreachable!(),
@@ -100,15 +102,15 @@ impl Device {
         ensures { self.new ≡ where_room self.old (target_acted self.old.target m) }
     {
         match &mut self.link {
-            Link::Working(connection) => {
+            ConnectionState::TaskConnected(connection) => {
                 if let Some(unit) = &mut self.units[connection.lun() as usize] {
                     move_on(unit, connection, m);
                 }
             }
-            Link::Straying(_, named) => {
+            ConnectionState::RogueConnected(_, named) => {
                 let named = *named;
                 if let Move::Rogue { word } = m {
-                    self.link = stray_on(named, word);
+                    self.link = rogue_on(named, word);
                 }
             }
             _ => {}
@@ -119,23 +121,23 @@ impl Device {
     ///
     /// Condition: no units that break the rules are connected.
     pub fn ask_message(&mut self)
-        requires { is_straying self.old.target.link ≡ false }
+        requires { is_rogue_connected self.old.target.link ≡ false }
         ensures { self.new ≡ record { target = linked self.old.target (asked_by self.old.target.link); rooms = self.old.rooms } }
     {
-        if let Link::Working(connection) = &mut self.link {
+        if let ConnectionState::TaskConnected(connection) = &mut self.link {
             connection.ask_message();
         }
     }
 }
 
 /// The link of a target that is selected.
-fn selected(rogue: bool) -> Link
+fn selected(rogue: bool) -> ConnectionState
     ensures { link_of result ≡ selected_by rogue }
 {
     if rogue {
-        Link::Straying(Stray::Hearing, None)
+        ConnectionState::RogueConnected(RoguePhase::MessageOut, None)
     } else {
-        Link::Greeted(Heard::new())
+        ConnectionState::Selected(MessageBuffer::new())
     }
 }
 
@@ -160,11 +162,11 @@ fn move_on(unit: &mut QueuedUnit, connection: &mut Connection, m: Move)
 }
 
 /// The link of a target that breaks the rules after its move by a word.
-fn stray_on(named: Option<Nexus>, word: u32) -> Link
-    ensures { link_of result ≡ link_or_free (strayed word) named }
+fn rogue_on(named: Option<Nexus>, word: u32) -> ConnectionState
+    ensures { link_of result ≡ link_or_free (rogue_chosen word) named }
 {
-    match rogue_target::strayed(word) {
-        Some(shown) => Link::Straying(shown, named),
-        None => Link::Free,
+    match rogue_target::chosen(word) {
+        Some(shown) => ConnectionState::RogueConnected(shown, named),
+        None => ConnectionState::BusFree,
     }
 }

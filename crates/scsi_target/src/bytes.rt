@@ -6,8 +6,8 @@ ghost use Rattle.target_law.specs.Target.{linked};
 ghost use Rattle.target_law.specs.Calls.{link_byte, sent_if, link_takes, took_if, whole_by, is_whole};
 ghost use Rattle.scsi_target.specs.Views.{link_of, block_took, HoldsOn, IsBlock, IsHeld};
 
+use crate::connection_state::{Block, ConnectionState};
 use crate::device::Device;
-use crate::link::{Block, Link};
 
 impl Device {
     /// The next byte for the initiator. `None` exactly where no phase is shown, or the shown phase has no byte left
@@ -45,15 +45,15 @@ impl Device {
 }
 
 /// Sends the byte that the target has for the initiator, if it has one.
-fn send(link: &mut Link) -> Option<u8>
+fn send(link: &mut ConnectionState) -> Option<u8>
     requires { IsHeld link.old }
     ensures byte { result ≡ link_byte (link_of link.old) }
     ensures state { link_of link.new ≡ sent_if (link_byte (link_of link.old)) (link_of link.old) }
     ensures held { HoldsOn link.old link.new }
 {
     match link {
-        Link::Working(connection) => connection.byte_in(),
-        Link::Straying(shown, named) => {
+        ConnectionState::TaskConnected(connection) => connection.byte_in(),
+        ConnectionState::RogueConnected(shown, named) => {
             let byte = rogue_target::byte_for(*shown, *named)?;
             *shown = rogue_target::sent(*shown);
             Some(byte)
@@ -63,21 +63,21 @@ fn send(link: &mut Link) -> Option<u8>
 }
 
 /// Takes a byte of the initiator, if the target takes one.
-fn take(link: &mut Link, b: u8) -> bool
+fn take(link: &mut ConnectionState, b: u8) -> bool
     requires { IsHeld link.old }
     ensures taken { result ≡ link_takes (link_of link.old) }
     ensures state { link_of link.new ≡ took_if (link_takes (link_of link.old)) (link_of link.old) b }
     ensures held { HoldsOn link.old link.new }
 {
     match link {
-        Link::Free => false,
-        Link::Greeted(heard) => {
+        ConnectionState::BusFree => false,
+        ConnectionState::Selected(heard) => {
             heard.push(b);
             true
         }
-        Link::Commanded(_, block) => take_block(block, b),
-        Link::Working(connection) => connection.byte_out(b),
-        Link::Straying(shown, _) => {
+        ConnectionState::TakingCommand(_, block) => take_block(block, b),
+        ConnectionState::TaskConnected(connection) => connection.byte_out(b),
+        ConnectionState::RogueConnected(shown, _) => {
             let takes = rogue_target::takes(*shown);
             *shown = rogue_target::took(*shown, b);
             takes
@@ -100,11 +100,11 @@ fn take_block(block: &mut Block, b: u8) -> bool
 }
 
 /// Whether a command descriptor block is whole.
-fn is_whole(link: &Link) -> bool
+fn is_whole(link: &ConnectionState) -> bool
     ensures { result ≡ whole_by (link_of link.now) }
 {
     match link {
-        Link::Commanded(_, block) => block.is_whole(),
+        ConnectionState::TakingCommand(_, block) => block.is_whole(),
         _ => false,
     }
 }

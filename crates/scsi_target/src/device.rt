@@ -5,14 +5,14 @@ ghost use Rattle.std.specs.List.{list_any};
 ghost use Rattle.plain_lun.specs.Unit.{blocks_of};
 ghost use Rattle.plain_lun.specs.Performing.{blocks_at};
 ghost use Rattle.target_law.specs.Target.{unit_at};
-ghost use Rattle.target_law.specs.Calls.{is_free, is_rogue, is_straying, is_absent, answers, link_phase, nexus_of, candidates};
+ghost use Rattle.target_law.specs.Calls.{is_free, is_rogue, is_rogue_connected, is_absent, answers, link_phase, nexus_of, candidates};
 ghost use Rattle.target_law.specs.Beginning.{has_place};
 ghost use Rattle.target_law.specs.Devices.{room_at, device_opened, device_reserved};
 ghost use Rattle.target_law.specs.Lawful.{IsThere};
 ghost use Rattle.scsi_target.specs.Devices.{IsOneTarget, IsPresent, first_is_rogue, HasUnit, place_for};
 ghost use Rattle.scsi_target.specs.Slots.{slot_of, has_unit_in, answers_in};
 
-use crate::link::Link;
+use crate::connection_state::ConnectionState;
 use rig_types::Unit;
 use scsi_words::Phase;
 use std::alloc::{AllocError, Global};
@@ -27,7 +27,7 @@ use unit_tasks::QueuedUnit;
 pub struct Device {
     /// The units by LUN.
     pub(crate) units: Vec<Option<QueuedUnit>>,
-    pub(crate) link: Link,
+    pub(crate) link: ConnectionState,
     /// Its units break the rules of the bus.
     pub(crate) rogue: bool,
 }
@@ -61,7 +61,7 @@ impl Device {
         }
         Ok(Device {
             units: slots,
-            link: Link::Free,
+            link: ConnectionState::BusFree,
             rogue,
         })
     }
@@ -86,7 +86,7 @@ impl Device {
     pub fn connected(&self) -> bool
         ensures { result ≡ not (is_free self.now.target.link) }
     {
-        !matches!(self.link, Link::Free)
+        !matches!(self.link, ConnectionState::BusFree)
     }
 
     /// The phase that the target shows, `None` exactly where it isn't connected or is to choose.
@@ -94,11 +94,11 @@ impl Device {
         ensures { result ≡ link_phase self.now.target.link }
     {
         match &self.link {
-            Link::Free => None,
-            Link::Greeted(_) => Some(Phase::MsgOut),
-            Link::Commanded(..) => Some(Phase::Command),
-            Link::Working(connection) => connection.phase(),
-            Link::Straying(stray, _) => rogue_target::phase_of(*stray),
+            ConnectionState::BusFree => None,
+            ConnectionState::Selected(_) => Some(Phase::MsgOut),
+            ConnectionState::TakingCommand(..) => Some(Phase::Command),
+            ConnectionState::TaskConnected(connection) => connection.phase(),
+            ConnectionState::RogueConnected(shown, _) => rogue_target::phase_of(*shown),
         }
     }
 
@@ -108,13 +108,13 @@ impl Device {
         ensures lun { IfSome result (λ n. n.lun < 8) }
     {
         match &self.link {
-            Link::Free | Link::Greeted(_) => None,
-            Link::Commanded(nexus, _) => Some(*nexus),
-            Link::Working(connection) => Some(Nexus {
+            ConnectionState::BusFree | ConnectionState::Selected(_) => None,
+            ConnectionState::TakingCommand(nexus, _) => Some(*nexus),
+            ConnectionState::TaskConnected(connection) => Some(Nexus {
                 lun: connection.lun(),
                 tag: connection.tag(),
             }),
-            Link::Straying(_, named) => *named,
+            ConnectionState::RogueConnected(_, named) => *named,
         }
     }
 
@@ -154,7 +154,7 @@ impl Device {
     /// unit show any tag.
     pub fn is_rogue(&self) -> bool
         ensures rogue { result ≡ is_rogue self.now.target }
-        ensures link { result ≡ false → is_straying self.now.target.link ≡ false }
+        ensures link { result ≡ false → is_rogue_connected self.now.target.link ≡ false }
     {
         self.rogue
     }

@@ -7,13 +7,13 @@
 mod beginning;
 mod bus;
 mod bytes;
+mod connection_state;
 mod device;
+mod initiator_message;
 mod laws;
-mod link;
 mod messages;
-mod parting;
 mod resetting;
-mod told;
+mod task_exit;
 
 pub use device::Device;
 pub use laws::one_move_a_word;

@@ -6,19 +6,19 @@ ghost use Rattle.target_law.specs.Target.{target_reset, unit_at};
 ghost use Rattle.target_law.specs.Calls.{link_phase, WaitsForAck, target_messaged, target_acked};
 ghost use Rattle.target_session.specs.Sessions.{heard_on};
 ghost use Rattle.target_law.specs.Devices.{where_room};
-ghost use Rattle.scsi_target.specs.Partings.{parting_of};
-ghost use Rattle.scsi_target.specs.Messages.{parting_told, link_named};
+ghost use Rattle.scsi_target.specs.TaskExits.{exit_of};
+ghost use Rattle.scsi_target.specs.Messages.{exit_for, link_named};
 ghost use Rattle.scsi_target.specs.Slots.{slot_of};
 ghost use Rattle.scsi_target.specs.Views.{busy, device_of, link_of, HoldsOn, IsDevice, IsLinked};
-ghost use Rattle.scsi_target.specs.declared.link.Link.TheVariants as held;
+ghost use Rattle.scsi_target.specs.declared.connection_state.ConnectionState.TheVariants as held;
 
+use crate::connection_state::{Block, ConnectionState, MessageBuffer};
 use crate::device::Device;
-use crate::link::{Block, Heard, Link};
-use crate::parting::{Parting, part};
+use crate::initiator_message::{InitiatorMessage, read_message};
 use crate::resetting::{reset, reset_with, reset_without};
-use crate::told::{Told, read_message};
+use crate::task_exit::{TaskExit, part};
 use std::mem;
-use target_law::{Nexus, Note, Showing, Stray};
+use target_law::{Nexus, RoguePhase, TargetMessage, TaskPhase};
 use target_session::Connection;
 use unit_tasks::QueuedUnit;
 
@@ -34,7 +34,7 @@ impl Device {
         requires { link_phase self.old.target.link ≡ Some MsgOut }
         ensures { self.new ≡ where_room self.old (target_messaged self.old.target) }
     {
-        let link = mem::replace(&mut self.link, Link::Free);
+        let link = mem::replace(&mut self.link, ConnectionState::BusFree);
         self.link = messaged(&mut self.units, link);
     }
 
@@ -43,7 +43,7 @@ impl Device {
     pub fn reset(&mut self)
         ensures { self.new ≡ where_room self.old (target_reset self.old.target) }
     {
-        let link = mem::replace(&mut self.link, Link::Free);
+        let link = mem::replace(&mut self.link, ConnectionState::BusFree);
         self.link = reset(&mut self.units, link);
     }
 
@@ -55,13 +55,13 @@ impl Device {
         requires { WaitsForAck self.old.target.link }
         ensures { self.new ≡ where_room self.old (target_acked self.old.target) }
     {
-        let link = mem::replace(&mut self.link, Link::Free);
+        let link = mem::replace(&mut self.link, ConnectionState::BusFree);
         self.link = acked(&mut self.units, link);
     }
 }
 
 /// A message byte is acknowledged. The link after that.
-fn acked(units: &mut Vec<Option<QueuedUnit>>, link: Link) -> Link
+fn acked(units: &mut Vec<Option<QueuedUnit>>, link: ConnectionState) -> ConnectionState
     requires device { (rogue : Bool) × IsDevice (vec_len units.old) units.old.items link rogue }
     ensures state { device_of units.new.items result ≡
         where_room (device_of units.old.items link) (target_acked (device_of units.old.items link).target) }
@@ -69,38 +69,41 @@ fn acked(units: &mut Vec<Option<QueuedUnit>>, link: Link) -> Link
         IsDevice (vec_len units.new) units.new.items result rogue }
 {
     match link {
-        Link::Working(connection) => hear(units, connection),
-        Link::Straying(shown, named) => Link::Straying(rogue_target::heard(shown), named),
+        ConnectionState::TaskConnected(connection) => hear(units, connection),
+        ConnectionState::RogueConnected(shown, named) => ConnectionState::RogueConnected(
+            rogue_target::heard(shown),
+            named,
+        ),
         other => other,
     }
 }
 
 /// A message of a connected task is acknowledged.
-fn hear(units: &mut Vec<Option<QueuedUnit>>, connection: Connection) -> Link
-    requires { IsDevice (vec_len units.old) units.old.items (held.Working connection) false }
-    ensures state { device_of units.new.items result ≡ where_room (device_of units.old.items (held.Working connection))
-        (target_acked (device_of units.old.items (held.Working connection)).target) }
+fn hear(units: &mut Vec<Option<QueuedUnit>>, connection: Connection) -> ConnectionState
+    requires { IsDevice (vec_len units.old) units.old.items (held.TaskConnected connection) false }
+    ensures state { device_of units.new.items result ≡ where_room (device_of units.old.items (held.TaskConnected connection))
+        (target_acked (device_of units.old.items (held.TaskConnected connection)).target) }
     ensures device { IsDevice (vec_len units.new) units.new.items result false }
 {
-    match parting_of(connection.shows()) {
+    match exit_of(connection.shows()) {
         Some(how) => part(units, connection, how),
-        None => Link::Working(gone_on(connection)),
+        None => ConnectionState::TaskConnected(gone_on(connection)),
     }
 }
 
 /// How the task leaves the bus once what it shows was acknowledged, if it does.
-fn parting_of(shown: Showing) -> Option<Parting>
-    ensures { result ≡ parting_of shown }
+fn exit_of(shown: TaskPhase) -> Option<TaskExit>
+    ensures { result ≡ exit_of shown }
 {
     match shown {
-        Showing::Saying {
-            note: Note::Complete(_),
+        TaskPhase::MessageIn {
+            message: TargetMessage::CommandComplete(_),
             ..
-        } => Some(Parting::Ended),
-        Showing::Saying {
-            note: Note::LeaveNow,
+        } => Some(TaskExit::Completed),
+        TaskPhase::MessageIn {
+            message: TargetMessage::Disconnect,
             ..
-        } => Some(Parting::Left),
+        } => Some(TaskExit::Disconnected),
         _ => None,
     }
 }
@@ -108,7 +111,7 @@ fn parting_of(shown: Showing) -> Option<Parting>
 /// A connected task goes on after a message.
 fn gone_on(connection: Connection) -> Connection
     ensures connection { result ≡ heard_on connection.shows connection }
-    ensures held { HoldsOn (held.Working connection) (held.Working result) }
+    ensures held { HoldsOn (held.TaskConnected connection) (held.TaskConnected result) }
 {
     let mut connection = connection;
     connection.go_on();
@@ -116,7 +119,7 @@ fn gone_on(connection: Connection) -> Connection
 }
 
 /// A message of the initiator is whole, and acts. The link after that.
-fn messaged(units: &mut Vec<Option<QueuedUnit>>, link: Link) -> Link
+fn messaged(units: &mut Vec<Option<QueuedUnit>>, link: ConnectionState) -> ConnectionState
     requires device { (rogue : Bool) × IsDevice (vec_len units.old) units.old.items link rogue }
     ensures state { device_of units.new.items result ≡
         where_room (device_of units.old.items link) (target_messaged (device_of units.old.items link).target) }
@@ -124,64 +127,67 @@ fn messaged(units: &mut Vec<Option<QueuedUnit>>, link: Link) -> Link
         IsDevice (vec_len units.new) units.new.items result rogue }
 {
     match link {
-        Link::Greeted(heard) => greet(units, heard),
-        Link::Working(connection) => tell(units, connection),
-        Link::Straying(_, named) => Link::Straying(Stray::Choosing, named),
+        ConnectionState::Selected(heard) => greet(units, heard),
+        ConnectionState::TaskConnected(connection) => tell(units, connection),
+        ConnectionState::RogueConnected(_, named) => ConnectionState::RogueConnected(
+            RoguePhase::ToChoose,
+            named,
+        ),
         other => other,
     }
 }
 
 /// The message after a selection acts.
-fn greet(units: &mut Vec<Option<QueuedUnit>>, heard: Heard) -> Link
-    requires { IsDevice (vec_len units.old) units.old.items (held.Greeted heard) false }
-    ensures state { device_of units.new.items result ≡ where_room (device_of units.old.items (held.Greeted heard))
-        (target_messaged (device_of units.old.items (held.Greeted heard)).target) }
+fn greet(units: &mut Vec<Option<QueuedUnit>>, heard: MessageBuffer) -> ConnectionState
+    requires { IsDevice (vec_len units.old) units.old.items (held.Selected heard) false }
+    ensures state { device_of units.new.items result ≡ where_room (device_of units.old.items (held.Selected heard))
+        (target_messaged (device_of units.old.items (held.Selected heard)).target) }
     ensures device { IsDevice (vec_len units.new) units.new.items result false }
 {
     match read_message(heard.as_slice()) {
-        Told::Names(nexus) => commanded(units, nexus),
-        Told::Resets => reset_without(units, Link::Greeted(heard)),
-        Told::AbortsTag | Told::Other => Link::Free,
+        InitiatorMessage::Names(nexus) => commanded(units, nexus),
+        InitiatorMessage::Resets => reset_without(units, ConnectionState::Selected(heard)),
+        InitiatorMessage::AbortsTag | InitiatorMessage::Other => ConnectionState::BusFree,
     }
 }
 
 /// The link after a message that names a nexus: it is to take a command where the unit is there.
-fn commanded(units: &Vec<Option<QueuedUnit>>, nexus: Nexus) -> Link
+fn commanded(units: &Vec<Option<QueuedUnit>>, nexus: Nexus) -> ConnectionState
     ensures link { link_of result ≡ link_named (unit_at (map slot_of units.now.items) nexus.lun) nexus }
     ensures linked { IsLinked result units.now.items false }
     ensures idle { (k : ℕ) → busy result k ≡ 0 }
 {
     if units.len() <= nexus.lun as usize {
-        return Link::Free;
+        return ConnectionState::BusFree;
     }
     match &units[nexus.lun as usize] {
-        Some(_) => Link::Commanded(nexus, Block::new()),
-        None => Link::Free,
+        Some(_) => ConnectionState::TakingCommand(nexus, Block::new()),
+        None => ConnectionState::BusFree,
     }
 }
 
 /// The message to a connected task acts.
-fn tell(units: &mut Vec<Option<QueuedUnit>>, connection: Connection) -> Link
-    requires { IsDevice (vec_len units.old) units.old.items (held.Working connection) false }
-    ensures state { device_of units.new.items result ≡ where_room (device_of units.old.items (held.Working connection))
-        (target_messaged (device_of units.old.items (held.Working connection)).target) }
+fn tell(units: &mut Vec<Option<QueuedUnit>>, connection: Connection) -> ConnectionState
+    requires { IsDevice (vec_len units.old) units.old.items (held.TaskConnected connection) false }
+    ensures state { device_of units.new.items result ≡ where_room (device_of units.old.items (held.TaskConnected connection))
+        (target_messaged (device_of units.old.items (held.TaskConnected connection)).target) }
     ensures device { IsDevice (vec_len units.new) units.new.items result false }
 {
     match read_message(connection.heard()) {
-        Told::Resets => reset_with(units, connection),
+        InitiatorMessage::Resets => reset_with(units, connection),
         other => {
-            let how = parting_told(other, connection.is_reselected());
+            let how = exit_for(other, connection.is_reselected());
             part(units, connection, how)
         }
     }
 }
 
 /// How a connected task leaves the bus after a message that isn't a reset.
-fn parting_told(told: Told, reselected: bool) -> Parting
-    ensures { result ≡ parting_told told reselected }
+fn exit_for(told: InitiatorMessage, reselected: bool) -> TaskExit
+    ensures { result ≡ exit_for told reselected }
 {
     match told {
-        Told::AbortsTag if reselected => Parting::Dropped,
-        _ => Parting::Left,
+        InitiatorMessage::AbortsTag if reselected => TaskExit::Aborted,
+        _ => TaskExit::Disconnected,
     }
 }

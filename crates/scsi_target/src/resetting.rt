@@ -8,16 +8,16 @@ ghost use Rattle.target_law.specs.Devices.{lie_within, where_room};
 ghost use Rattle.scsi_target.specs.Resettings.{with_task, HasNoTask};
 ghost use Rattle.scsi_target.specs.Slots.{room_of, slot_after, slot_can_reset, all_can_reset};
 ghost use Rattle.scsi_target.specs.Views.{device_of, IsDevice};
-ghost use Rattle.scsi_target.specs.declared.link.Link.TheVariants as held;
+ghost use Rattle.scsi_target.specs.declared.connection_state.ConnectionState.TheVariants as held;
 
-use crate::link::Link;
-use crate::parting::{Parting, part};
+use crate::connection_state::ConnectionState;
+use crate::task_exit::{TaskExit, part};
 use target_session::Connection;
 use unit_task::Task;
 use unit_tasks::QueuedUnit;
 
 /// Resets all units where each log has room for that, a connected task among the others. The link after that.
-pub(crate) fn reset(units: &mut Vec<Option<QueuedUnit>>, link: Link) -> Link
+pub(crate) fn reset(units: &mut Vec<Option<QueuedUnit>>, link: ConnectionState) -> ConnectionState
     requires device { (rogue : Bool) × IsDevice (vec_len units.old) units.old.items link rogue }
     ensures state { device_of units.new.items result ≡
         where_room (device_of units.old.items link) (target_reset (device_of units.old.items link).target) }
@@ -25,13 +25,16 @@ pub(crate) fn reset(units: &mut Vec<Option<QueuedUnit>>, link: Link) -> Link
         IsDevice (vec_len units.new) units.new.items result rogue }
 {
     match link {
-        Link::Working(connection) => reset_with(units, connection),
+        ConnectionState::TaskConnected(connection) => reset_with(units, connection),
         other => reset_without(units, other),
     }
 }
 
 /// The same where no task is connected.
-pub(crate) fn reset_without(units: &mut Vec<Option<QueuedUnit>>, link: Link) -> Link
+pub(crate) fn reset_without(
+    units: &mut Vec<Option<QueuedUnit>>,
+    link: ConnectionState,
+) -> ConnectionState
     requires device { (rogue : Bool) × IsDevice (vec_len units.old) units.old.items link rogue }
     requires none { HasNoTask link }
     ensures state { device_of units.new.items result ≡
@@ -43,28 +46,31 @@ pub(crate) fn reset_without(units: &mut Vec<Option<QueuedUnit>>, link: Link) -> 
         return link;
     }
     reset_all(units);
-    Link::Free
+    ConnectionState::BusFree
 }
 
 /// The same of a connected task.
-pub(crate) fn reset_with(units: &mut Vec<Option<QueuedUnit>>, connection: Connection) -> Link
-    requires { IsDevice (vec_len units.old) units.old.items (held.Working connection) false }
-    ensures state { device_of units.new.items result ≡ where_room (device_of units.old.items (held.Working connection))
-        (target_reset (device_of units.old.items (held.Working connection)).target) }
+pub(crate) fn reset_with(
+    units: &mut Vec<Option<QueuedUnit>>,
+    connection: Connection,
+) -> ConnectionState
+    requires { IsDevice (vec_len units.old) units.old.items (held.TaskConnected connection) false }
+    ensures state { device_of units.new.items result ≡ where_room (device_of units.old.items (held.TaskConnected connection))
+        (target_reset (device_of units.old.items (held.TaskConnected connection)).target) }
     ensures device { IsDevice (vec_len units.new) units.new.items result false }
 {
     if !can_reset_with(units, &connection) {
-        return Link::Working(connection);
+        return ConnectionState::TaskConnected(connection);
     }
-    let _ = part(units, connection, Parting::Left);
+    let _ = part(units, connection, TaskExit::Disconnected);
     reset_all(units);
-    Link::Free
+    ConnectionState::BusFree
 }
 
 /// Whether each log has room for a reset, with a connected task among the others.
 fn can_reset_with(units: &Vec<Option<QueuedUnit>>, connection: &Connection) -> bool
-    requires { IsDevice (vec_len units.now) units.now.items (held.Working connection.now) false }
-    ensures { result ≡ lie_within (target_reset (device_of units.now.items (held.Working connection.now)).target).units (map room_of units.now.items) }
+    requires { IsDevice (vec_len units.now) units.now.items (held.TaskConnected connection.now) false }
+    ensures { result ≡ lie_within (target_reset (device_of units.now.items (held.TaskConnected connection.now)).target).units (map room_of units.now.items) }
 {
     let others = can_reset_all(units);
     let here = can_reset_at(units, connection);
@@ -73,7 +79,7 @@ fn can_reset_with(units: &Vec<Option<QueuedUnit>>, connection: &Connection) -> b
 
 /// Whether the log of a connected task's unit has room for a reset, with that task among the others.
 fn can_reset_at(units: &Vec<Option<QueuedUnit>>, connection: &Connection) -> bool
-    requires { IsDevice (vec_len units.now) units.now.items (held.Working connection.now) false }
+    requires { IsDevice (vec_len units.now) units.now.items (held.TaskConnected connection.now) false }
     ensures { (q : QueuedUnit) → slice_get units.now.items connection.now.lun ≡ Some (Some q) →
         result ≡ can_reset (with_task q connection.now.task) }
 {

@@ -20,7 +20,7 @@ use Rattle.chip_step.specs.Step.{after_fetch, can_fetch, has_third, third_at, Is
 use Rattle.chip_step.specs.declared.outcome.StepEnd.{StepEnd}
 use Rattle.chip_step.specs.declared.outcome.StepEnd.TheVariants.{Ran, Stopped}
 use Rattle.chip_step.proofs.Frame.{Goes, Clears-goes, Waits-goes, Selects-goes, Move-goes, MovesBy-goes, Jumps-goes}
-use Rattle.chip_step.proofs.Made.{Ran-does}
+use Rattle.chip_step.proofs.Made.{ChipStep-does}
 use Rattle.straight_run.specs.Opening.{table, put_words, cdb, Opens}
 use Rattle.straight_run.proofs.Laying.{looked, word_at-put_words, length-put_words}
 
@@ -131,13 +131,13 @@ no_third op w e = rw e tt
 
 -- A step at an instruction of the script is that instruction, however it ends.
 pub made_at : {B : Type 0} (moves : B → Event → B → Type 0) (n a : ℕ) (op : Op) (old : Chip B) (end : StepEnd) (new : Chip B) → Going n old.memory old.regs → old.regs.dsp ≡ a → Holds a op →
-    step.Ran moves 0 old end new → Does moves 0 op old (after_fetch old) end new
+    step.ChipStep moves 0 old end new → Does moves 0 op old (after_fetch old) end new
 made_at moves n a op old end new g e h r =
     let w0 : word_at old.memory a ≡ (row op).first = first_word n a op old.memory old.regs g h in
     let w1 : word_at old.memory (a + 4) ≡ (row op).second = second_word n a op old.memory old.regs g h in
     let can : can_fetch old.memory old.regs ≡ true = fetches old.memory a (row op).first old.regs e g.size w0 h.short h.aligned h.fits in
     let at : IsAt old op = record { fields = h.fields; first = rw e w0; second = rw e w1; third = no_third op (third_at old.memory old.regs) h.two } in
-    Ran-does moves 0 old end new op g.running can at r
+    ChipStep-does moves 0 old end new op g.running can at r
 
 pub next_at : {B : Type 0} (n a : ℕ) (op : Op) (old : Chip B) → Going n old.memory old.regs → old.regs.dsp ≡ a → Holds a op → (after_fetch old).regs.dsp ≡ a + 8
 next_at n a op old g e h = strides old a (row op).first e (first_word n a op old.memory old.regs g h) h.short
@@ -191,7 +191,7 @@ module _ {B : Type 0} (moves : B → Event → B → Type 0) where
     | inr x ↦ further n k j 0 0 old new g nk kj jn nowhere (moved_to 0 0 t (8 * j) (after_fetch old) new u x)
   ]
 
-  onward : (k n : ℕ) (old new : Chip B) → Going n old.memory old.regs → old.regs.dsp ≡ 8 * k → n ≤ k → k < 10 → step.Ran moves 0 old Ran new → Going (suc n) new.memory new.regs
+  onward : (k n : ℕ) (old new : Chip B) → Going n old.memory old.regs → old.regs.dsp ≡ 8 * k → n ≤ k → k < 10 → step.ChipStep moves 0 old Ran new → Going (suc n) new.memory new.regs
   onward zero n old new g e h l r =
       either n 0 9 0x48 old new g h (lit< tt) (lit< tt) (lit< tt) (next_at n 0x00 (Select (pos 0x18) 0x48) old g e holds_0) refl
       (Selects-goes moves 0 (pos 0x18) 0x48 (after_fetch old) new Ran (made_at moves n 0x00 (Select (pos 0x18) 0x48) old Ran new g e holds_0 r) refl)
@@ -228,7 +228,7 @@ module _ {B : Type 0} (moves : B → Event → B → Type 0) where
   onward (suc (suc (suc (suc (suc (suc (suc (suc (suc (suc k)))))))))) n old new g e h l r = absurd (omega arith)
 
   -- a step that doesn't stop leads one further
-  pub step_on : (n : ℕ) (old new : Chip B) → Going n old.memory old.regs → step.Ran moves 0 old Ran new → Going (suc n) new.memory new.regs
+  pub step_on : (n : ℕ) (old new : Chip B) → Going n old.memory old.regs → step.ChipStep moves 0 old Ran new → Going (suc n) new.memory new.regs
   step_on n old new g r = onward g.place n old new g g.dsp_is g.far g.near r
 
 -- no word of the script is WAIT RESELECT

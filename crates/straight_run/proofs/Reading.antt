@@ -107,9 +107,9 @@ module _ {B : Type 0} (moves : B → Event → B → Type 0) (P : B → Type 0) 
     pub is : end ≡ Ran
     pub at : At n k m es new
 
-  went : (n k : ℕ) (m : List ℕ) (es : List Event) (old : Chip B) (end : StepEnd) (new : Chip B) → Going n old.memory old.regs → step.Ran moves 0 old end new → end ≡ Ran → new.regs.dsp ≡ 8 * k → new.memory ≡ m → Answers moves es P new.bus → Went (suc n) k m es end new
+  went : (n k : ℕ) (m : List ℕ) (es : List Event) (old : Chip B) (end : StepEnd) (new : Chip B) → Going n old.memory old.regs → step.ChipStep moves 0 old end new → end ≡ Ran → new.regs.dsp ≡ 8 * k → new.memory ≡ m → Answers moves es P new.bus → Went (suc n) k m es end new
   went n k m es old end new g r e d q a =
-      let on : step.Ran moves 0 old Ran new = rw e at r in
+      let on : step.ChipStep moves 0 old Ran new = rw e at r in
       record { is = e; at = record { going = step_on moves n old new g on; dsp = d; memory_is = q; rest = a } }
 
   -- a move by an entry of the block
@@ -143,7 +143,7 @@ module _ {B : Type 0} (moves : B → Event → B → Type 0) (P : B → Type 0) 
       let e : event.Select (w / 65536 % 256) 0 TimedOut ≡ event.Select 0 0 Selected = r.0 in
       absurd cc
 
-  selects : (m : List ℕ) (es : List Event) (old : Chip B) (end : StepEnd) (new : Chip B) → old.regs.con ≡ false → At 0 0 m (event.Select 0 0 Selected ∷ event.SetAtn true ∷ es) old → step.Ran moves 0 old end new → Went 1 1 m es end new
+  selects : (m : List ℕ) (es : List Event) (old : Chip B) (end : StepEnd) (new : Chip B) → old.regs.con ≡ false → At 0 0 m (event.Select 0 0 Selected ∷ event.SetAtn true ∷ es) old → step.ChipStep moves 0 old end new → Went 1 1 m es end new
   selects m es old end new off a r =
       let g : Going 0 old.memory old.regs = a.going in
       let d : Selects moves 0 (pos 0x18) 0x48 (after_fetch old) end new = made_at moves 0 0x00 (Select (pos 0x18) 0x48) old end new g a.dsp holds_0 r in
@@ -156,14 +156,14 @@ module _ {B : Type 0} (moves : B → Event → B → Type 0) (P : B → Type 0) 
       went 0 1 m es old end new g r x.0 (x.2 ∙ next_at 0 0x00 (Select (pos 0x18) 0x48) old g a.dsp holds_0) (x.1 ∙ a.memory_is) x.3
 
   -- a move that is done leads one place further
-  done : (n k a : ℕ) (op : Op) (m m' : List ℕ) (es : List Event) (old from : Chip B) (end : StepEnd) (new : Chip B) → Going n old.memory old.regs → old.regs.dsp ≡ a → Holds a op → a + 8 ≡ 8 * k → step.Ran moves 0 old end new →
+  done : (n k a : ℕ) (op : Op) (m m' : List ℕ) (es : List Event) (old from : Chip B) (end : StepEnd) (new : Chip B) → Going n old.memory old.regs → old.regs.dsp ≡ a → Holds a op → a + 8 ≡ 8 * k → step.ChipStep moves 0 old end new →
       from.regs.dsp ≡ (after_fetch old).regs.dsp → m' ≡ m → Done moves P m' es from end new → Went (suc n) k m es end new
   done n k a op m m' es old from end new g e h p r f q d =
       went n k m es old end new g r d.is (d.dsp_is ∙ f ∙ next_at n a op old g e h ∙ p) (d.memory_is ∙ q) d.rest
 
   -- 08 the message
   tells : (n : ℕ) (m : List ℕ) (es : List Event) (old : Chip B) (end : StepEnd) (new : Chip B) → ((i : ℕ) → i < 3 → get_or m (0x100e0 + i) 0 ≡ get_or (0xc0 ∷ 0x20 ∷ 0 ∷ []) i 0) →
-      At n 1 m (asks MsgOut (outs (0xc0 ∷ 0x20 ∷ 0 ∷ []) (event.SetAtn false ∷ es))) old → step.Ran moves 0 old end new → Went (suc n) 2 m es end new
+      At n 1 m (asks MsgOut (outs (0xc0 ∷ 0x20 ∷ 0 ∷ []) (event.SetAtn false ∷ es))) old → step.ChipStep moves 0 old end new → Went (suc n) 2 m es end new
   tells n m es old end new t a r =
       let g : Going n old.memory old.regs = a.going in
       let from : Chip B = loaded 3 0x100e0 (after_fetch old) in
@@ -175,7 +175,7 @@ module _ {B : Type 0} (moves : B → Event → B → Type 0) (P : B → Type 0) 
 
   -- 10 the CDB
   commands : (n lba : ℕ) (m : List ℕ) (es : List Event) (old : Chip B) (end : StepEnd) (new : Chip B) → ((i : ℕ) → i < 10 → get_or m (0x100f0 + i) 0 ≡ get_or (cdb lba) i 0) →
-      At n 2 m (asks Command (outs (cdb lba) es)) old → step.Ran moves 0 old end new → Went (suc n) 3 m es end new
+      At n 2 m (asks Command (outs (cdb lba) es)) old → step.ChipStep moves 0 old end new → Went (suc n) 3 m es end new
   commands n lba m es old end new t a r =
       let g : Going n old.memory old.regs = a.going in
       let from : Chip B = loaded 10 0x100f0 (after_fetch old) in
@@ -189,7 +189,7 @@ module _ {B : Type 0} (moves : B → Event → B → Type 0) (P : B → Type 0) 
   chosen : (decision : Option Bool) (t : Bool) (old : Chip B) (end : StepEnd) (new : Chip B) → decision ≡ Some t → TransfersAt decision Ran (record old.regs { dsp = 0x28 }) old end new → TransfersAt (Some t) Ran (record old.regs { dsp = 0x28 }) old end new
   chosen decision t old end new e d = rw e at d
 
-  finds_data : (n : ℕ) (m : List ℕ) (es : List Event) (old : Chip B) (end : StepEnd) (new : Chip B) → At n 3 m (asks DataIn es) old → step.Ran moves 0 old end new → Went (suc n) 4 m es end new
+  finds_data : (n : ℕ) (m : List ℕ) (es : List Event) (old : Chip B) (end : StepEnd) (new : Chip B) → At n 3 m (asks DataIn es) old → step.ChipStep moves 0 old end new → Went (suc n) 4 m es end new
   finds_data n m es old end new a r =
       let g : Going n old.memory old.regs = a.going in
       let t : Transfers moves 0 (condition.Phase true true 1) Ran (record (after_fetch old).regs { dsp = 0x28 }) (after_fetch old) end new = made_at moves n 0x18 (Jump (condition.Phase true true 1) 0x28) old end new g a.dsp holds_3 r in
@@ -198,7 +198,7 @@ module _ {B : Type 0} (moves : B → Event → B → Type 0) (P : B → Type 0) 
       let x : Ends Ran old.memory (after_fetch old).regs end new = chosen t.decision false (after_fetch old) end new e t.transfers in
       went n 4 m es old end new g r x.is (ap (λ (y : Regs). y.dsp) x.regs_are ∙ next_at n 0x18 (Jump (condition.Phase true true 1) 0x28) old g a.dsp holds_3) (x.memory_is ∙ a.memory_is) s.rest
 
-  finds_status : (n : ℕ) (m : List ℕ) (es : List Event) (old : Chip B) (end : StepEnd) (new : Chip B) → At n 3 m (asks Status es) old → step.Ran moves 0 old end new → Went (suc n) 5 m es end new
+  finds_status : (n : ℕ) (m : List ℕ) (es : List Event) (old : Chip B) (end : StepEnd) (new : Chip B) → At n 3 m (asks Status es) old → step.ChipStep moves 0 old end new → Went (suc n) 5 m es end new
   finds_status n m es old end new a r =
       let g : Going n old.memory old.regs = a.going in
       let t : Transfers moves 0 (condition.Phase true true 1) Ran (record (after_fetch old).regs { dsp = 0x28 }) (after_fetch old) end new = made_at moves n 0x18 (Jump (condition.Phase true true 1) 0x28) old end new g a.dsp holds_3 r in
@@ -208,7 +208,7 @@ module _ {B : Type 0} (moves : B → Event → B → Type 0) (P : B → Type 0) 
       went n 5 m es old end new g r x.is (ap (λ (y : Regs). y.dsp) x.regs_are) (x.memory_is ∙ a.memory_is) s.rest
 
   -- 20 the data
-  reads : (n : ℕ) (bytes : List ℕ) (m : List ℕ) (es : List Event) (old : Chip B) (end : StepEnd) (new : Chip B) → length bytes ≡ 512 → At n 4 m (asks DataIn (ins bytes es)) old → step.Ran moves 0 old end new → Went (suc n) 5 (put_bytes m 0x200000 bytes) es end new
+  reads : (n : ℕ) (bytes : List ℕ) (m : List ℕ) (es : List Event) (old : Chip B) (end : StepEnd) (new : Chip B) → length bytes ≡ 512 → At n 4 m (asks DataIn (ins bytes es)) old → step.ChipStep moves 0 old end new → Went (suc n) 5 (put_bytes m 0x200000 bytes) es end new
   reads n bytes m es old end new len a r =
       let g : Going n old.memory old.regs = a.going in
       let from : Chip B = loaded 512 0x200000 (after_fetch old) in
@@ -218,7 +218,7 @@ module _ {B : Type 0} (moves : B → Event → B → Type 0) (P : B → Type 0) 
       done n 5 0x20 (MoveFrom (pos 0x40) 1) (put_bytes m 0x200000 bytes) (put_bytes old.memory 0x200000 bytes) es old (record from { bus = s.bus }) end new g a.dsp holds_4 refl r refl (ap (λ (x : List ℕ). put_bytes x 0x200000 bytes) a.memory_is) d
 
   -- 28 the status
-  takes_status : (n status : ℕ) (m : List ℕ) (es : List Event) (old : Chip B) (end : StepEnd) (new : Chip B) → At n 5 m (asks Status (event.ByteIn (Some status) ∷ es)) old → step.Ran moves 0 old end new → Went (suc n) 6 (put_bytes m 0x10014 (status ∷ [])) es end new
+  takes_status : (n status : ℕ) (m : List ℕ) (es : List Event) (old : Chip B) (end : StepEnd) (new : Chip B) → At n 5 m (asks Status (event.ByteIn (Some status) ∷ es)) old → step.ChipStep moves 0 old end new → Went (suc n) 6 (put_bytes m 0x10014 (status ∷ [])) es end new
   takes_status n status m es old end new a r =
       let g : Going n old.memory old.regs = a.going in
       let from : Chip B = loaded 1 0x10014 (after_fetch old) in
@@ -228,7 +228,7 @@ module _ {B : Type 0} (moves : B → Event → B → Type 0) (P : B → Type 0) 
       done n 6 0x28 (MoveFrom (pos 0x30) 3) (put_bytes m 0x10014 (status ∷ [])) (put_bytes old.memory 0x10014 (status ∷ [])) es old (record from { bus = s.bus }) end new g a.dsp holds_5 refl r refl (ap (λ (x : List ℕ). put_bytes x 0x10014 (status ∷ [])) a.memory_is) d
 
   -- 30 the message
-  takes_message : (n b : ℕ) (m : List ℕ) (es : List Event) (old : Chip B) (end : StepEnd) (new : Chip B) → At n 6 m (asks MsgIn (event.ByteIn (Some b) ∷ es)) old → step.Ran moves 0 old end new → Went (suc n) 7 (put_bytes m 0x1010 (b ∷ [])) es end new
+  takes_message : (n b : ℕ) (m : List ℕ) (es : List Event) (old : Chip B) (end : StepEnd) (new : Chip B) → At n 6 m (asks MsgIn (event.ByteIn (Some b) ∷ es)) old → step.ChipStep moves 0 old end new → Went (suc n) 7 (put_bytes m 0x1010 (b ∷ [])) es end new
   takes_message n c m es old end new a r =
       let g : Going n old.memory old.regs = a.going in
       let from : Chip B = loaded 1 0x1010 (after_fetch old) in
@@ -238,7 +238,7 @@ module _ {B : Type 0} (moves : B → Event → B → Type 0) (P : B → Type 0) 
       done n 7 0x30 (Move 1 0x1010 7) (put_bytes m 0x1010 (c ∷ [])) (put_bytes old.memory 0x1010 (c ∷ [])) es old (record from { bus = s.bus }) end new g a.dsp holds_6 refl r refl (ap (λ (x : List ℕ). put_bytes x 0x1010 (c ∷ [])) a.memory_is) d
 
   -- 38 CLEAR ACK
-  clears : (n : ℕ) (m : List ℕ) (es : List Event) (old : Chip B) (end : StepEnd) (new : Chip B) → At n 7 m (event.ClearAck ∷ es) old → step.Ran moves 0 old end new → Went (suc n) 8 m es end new
+  clears : (n : ℕ) (m : List ℕ) (es : List Event) (old : Chip B) (end : StepEnd) (new : Chip B) → At n 7 m (event.ClearAck ∷ es) old → step.ChipStep moves 0 old end new → Went (suc n) 8 m es end new
   clears n m es old end new a r =
       let g : Going n old.memory old.regs = a.going in
       let c : Clears moves true false (after_fetch old) end new = made_at moves n 0x38 (Clear true false) old end new g a.dsp holds_7 r in
@@ -246,7 +246,7 @@ module _ {B : Type 0} (moves : B → Event → B → Type 0) (P : B → Type 0) 
       went n 8 m es old end new g r c.ends.is (ap (λ (y : Regs). y.dsp) c.ends.regs_are ∙ next_at n 0x38 (Clear true false) old g a.dsp holds_7) (c.ends.memory_is ∙ a.memory_is) (x event.ClearAck new.bus refl c.ack_then).1
 
   -- 40 WAIT DISCONNECT
-  leaves : (n : ℕ) (m : List ℕ) (es : List Event) (old : Chip B) (end : StepEnd) (new : Chip B) → At n 8 m (event.Leave 0 true ∷ es) old → step.Ran moves 0 old end new → Went (suc n) 9 m es end new
+  leaves : (n : ℕ) (m : List ℕ) (es : List Event) (old : Chip B) (end : StepEnd) (new : Chip B) → At n 8 m (event.Leave 0 true ∷ es) old → step.ChipStep moves 0 old end new → Went (suc n) 9 m es end new
   leaves n m es old end new a r =
       let g : Going n old.memory old.regs = a.going in
       let w : Waits moves 0 (after_fetch old) end new = made_at moves n 0x40 WaitDisconnect old end new g a.dsp holds_8 r in
@@ -263,7 +263,7 @@ module _ {B : Type 0} (moves : B → Event → B → Type 0) (P : B → Type 0) 
     pub cause_is : cause_of new.regs ≡ Some (Sir 7)
     pub bus_is : P new.bus
 
-  stops : (n : ℕ) (m : List ℕ) (old : Chip B) (end : StepEnd) (new : Chip B) → At n 9 m [] old → step.Ran moves 0 old end new → Over m end new
+  stops : (n : ℕ) (m : List ℕ) (old : Chip B) (end : StepEnd) (new : Chip B) → At n 9 m [] old → step.ChipStep moves 0 old end new → Over m end new
   stops n m old end new a r =
       let t : Transfers moves 0 condition.Always (Stopped (Sir 7)) (stop_with (Sir 7) (after_fetch old).regs) (after_fetch old) end new = made_at moves n 0x48 (Int condition.Always 7) old end new a.going a.dsp holds_9 r in
       let x : Ends (Stopped (Sir 7)) old.memory (stop_with (Sir 7) (after_fetch old).regs) end new = rw t.decides.0 at t.transfers in

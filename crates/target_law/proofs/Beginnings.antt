@@ -4,10 +4,10 @@ use Rattle.scsi_words.specs.declared.phases.kinds.Phase.{Phase as BusPhase}
 use Rattle.cdb_codec.specs.declared.commands.Cdb.{Cdb}
 use Rattle.cdb_codec.specs.Blocks.{cdb_of}
 use Rattle.target_law.specs.declared.nexus.Nexus.{Nexus}
-use Rattle.target_law.specs.declared.showing.Showing.{Showing}
-use Rattle.target_law.specs.declared.showing.Showing.TheVariants.{Choosing, Hearing, Sending, Receiving, Telling, Saying}
+use Rattle.target_law.specs.declared.task_phase.TaskPhase.{TaskPhase}
+use Rattle.target_law.specs.declared.task_phase.TaskPhase.TheVariants.{ToChoose, MessageOut, DataIn, DataOut, Status, MessageIn}
 use Rattle.target_law.specs.Bytes.{Connection, took_by}
-use Rattle.target_law.specs.Target.{LogicalUnit, Link, Free, Greeted, Commanded, Working, Straying, Target, unit_at, on_unit, at_lun, linked}
+use Rattle.target_law.specs.Target.{LogicalUnit, ConnectionState, BusFree, Selected, TakingCommand, TaskConnected, RogueConnected, Target, unit_at, on_unit, at_lun, linked}
 use Rattle.target_law.specs.Calls.{is_whole, whole_by, nexus_of, link_phase, link_takes, link_took, took_if, begun, begun_with, begun_by, target_begun}
 use Rattle.target_law.specs.Beginning.{has_place, where_placed, ticket_for, begins_if, begins, took_where, target_took}
 
@@ -16,7 +16,7 @@ pub record Begun (t : Target) : Type 0 where
   pub none_whole : whole_by t.link ≡ false
   pub shows_none : link_phase t.link ≡ None
 
-begun-either : (b : Bool) (t : Target) (l : Link) → whole_by l ≡ false → link_phase l ≡ None → Begun (if b then linked t Free else linked t l)
+begun-either : (b : Bool) (t : Target) (l : ConnectionState) → whole_by l ≡ false → link_phase l ≡ None → Begun (if b then linked t BusFree else linked t l)
 begun-either true t l e h = record { none_whole = refl; shows_none = refl }
 begun-either false t l e h = record { none_whole = e; shows_none = h }
 
@@ -30,12 +30,12 @@ begun-placed true (Some ticket) t n c e = begun-there (unit_at t.units n.lun) t 
 begun-placed true None t n c e = record { none_whole = refl; shows_none = refl }
 begun-placed false live t n c e = record { none_whole = refl; shows_none = refl }
 
-begun-whole : (live : Nexus → Option ℕ) (t : Target) (l : Link) → t.link ≡ l → whole_by l ≡ true → Begun (begun_by l t (ticket_for live t (nexus_of l)))
-begun-whole live t (Commanded n taken) e h = begun-placed (has_place (unit_at t.units n.lun) n.tag) (live n) t n (cdb_of taken) refl
-begun-whole live t Free e h = cc
-begun-whole live t (Greeted heard) e h = cc
-begun-whole live t (Working c) e h = cc
-begun-whole live t (Straying s n) e h = cc
+begun-whole : (live : Nexus → Option ℕ) (t : Target) (l : ConnectionState) → t.link ≡ l → whole_by l ≡ true → Begun (begun_by l t (ticket_for live t (nexus_of l)))
+begun-whole live t (TakingCommand n taken) e h = begun-placed (has_place (unit_at t.units n.lun) n.tag) (live n) t n (cdb_of taken) refl
+begun-whole live t BusFree e h = cc
+begun-whole live t (Selected heard) e h = cc
+begun-whole live t (TaskConnected c) e h = cc
+begun-whole live t (RogueConnected s n) e h = cc
 
 pub begins-begun : (live : Nexus → Option ℕ) (t : Target) → whole_by t.link ≡ true → Begun (target_begun t (ticket_for live t (nexus_of t.link)))
 unfolding target_begun
@@ -46,7 +46,7 @@ begins_if-none live true t e = (begins-begun live t e).none_whole
 begins_if-none live false t e = e
 
 took_where-none : (live : Nexus → Option ℕ) (takes : Bool) (t : Target) (b : ℕ) → whole_by t.link ≡ false → whole_by (took_where live takes t b).link ≡ false
-took_where-none live true t b e = let l : Link = link_took t.link b in begins_if-none live (whole_by l) (linked t l) refl
+took_where-none live true t b e = let l : ConnectionState = link_took t.link b in begins_if-none live (whole_by l) (linked t l) refl
 took_where-none live false t b e = e
 
 pub none_waits : (live : Nexus → Option ℕ) (t : Target) (b : ℕ) → whole_by t.link ≡ false → whole_by (target_took live t b).link ≡ false
@@ -59,36 +59,36 @@ begins-whole live true t e h = (begins-begun live t h).shows_none
 begins-whole live false t e h = cc
 
 last-if : (live : Nexus → Option ℕ) (units : List (Option LogicalUnit)) (n : Nexus) (taken : List ℕ) (b : ℕ) (whole : Bool) → whole ≡ false → is_whole (taken ++ b ∷ []) ≡ true
-    → link_phase (took_where live (not whole) (record { units = units; link = Commanded n taken }) b).link ≡ None
+    → link_phase (took_where live (not whole) (record { units = units; link = TakingCommand n taken }) b).link ≡ None
 last-if live units n taken b true e h = cc
-last-if live units n taken b false e h = begins-whole live (is_whole (taken ++ b ∷ [])) (record { units = units; link = Commanded n (taken ++ b ∷ []) }) h h
+last-if live units n taken b false e h = begins-whole live (is_whole (taken ++ b ∷ [])) (record { units = units; link = TakingCommand n (taken ++ b ∷ []) }) h h
 
 last-byte : (live : Nexus → Option ℕ) (units : List (Option LogicalUnit)) (n : Nexus) (taken : List ℕ) (b : ℕ) → is_whole taken ≡ false → is_whole (taken ++ b ∷ []) ≡ true
-    → link_phase (target_took live (record { units = units; link = Commanded n taken }) b).link ≡ None
+    → link_phase (target_took live (record { units = units; link = TakingCommand n taken }) b).link ≡ None
 unfolding target_took
 last-byte live units n taken b e h = last-if live units n taken b (is_whole taken) e h
 
-pub shows_none : (live : Nexus → Option ℕ) (t : Target) (b : ℕ) (n : Nexus) (taken : List ℕ) → t.link ≡ Commanded n taken → is_whole taken ≡ false → is_whole (taken ++ b ∷ []) ≡ true
+pub shows_none : (live : Nexus → Option ℕ) (t : Target) (b : ℕ) (n : Nexus) (taken : List ℕ) → t.link ≡ TakingCommand n taken → is_whole taken ≡ false → is_whole (taken ++ b ∷ []) ≡ true
     → link_phase (target_took live t b).link ≡ None
 shows_none live t b n taken e f h =
-    let same : record { units = t.units; link = Commanded n taken } ≡ t = ap (λ (l : Link). record { units = t.units; link = l }) (sym e) in
+    let same : record { units = t.units; link = TakingCommand n taken } ≡ t = ap (λ (l : ConnectionState). record { units = t.units; link = l }) (sym e) in
     subst (λ (x : Target). link_phase (target_took live x b).link ≡ None) same (last-byte live t.units n taken b f h)
 
 -- a byte changes no nexus
-nexus-shows : (s : Showing) (c : Connection) (b : ℕ) → nexus_of (Working (took_by s c b)) ≡ nexus_of (Working c)
-nexus-shows Choosing c b = refl
-nexus-shows Hearing c b = refl
-nexus-shows (Sending n) c b = refl
-nexus-shows (Receiving n) c b = refl
-nexus-shows (Telling v) c b = refl
-nexus-shows (Saying n sent) c b = refl
+nexus-shows : (s : TaskPhase) (c : Connection) (b : ℕ) → nexus_of (TaskConnected (took_by s c b)) ≡ nexus_of (TaskConnected c)
+nexus-shows ToChoose c b = refl
+nexus-shows MessageOut c b = refl
+nexus-shows (DataIn n) c b = refl
+nexus-shows (DataOut n) c b = refl
+nexus-shows (Status v) c b = refl
+nexus-shows (MessageIn n sent) c b = refl
 
-nexus-took : (l : Link) (b : ℕ) → nexus_of (link_took l b) ≡ nexus_of l
-nexus-took Free b = refl
-nexus-took (Greeted heard) b = refl
-nexus-took (Commanded n taken) b = refl
-nexus-took (Working c) b = nexus-shows c.shows c b
-nexus-took (Straying s n) b = refl
+nexus-took : (l : ConnectionState) (b : ℕ) → nexus_of (link_took l b) ≡ nexus_of l
+nexus-took BusFree b = refl
+nexus-took (Selected heard) b = refl
+nexus-took (TakingCommand n taken) b = refl
+nexus-took (TaskConnected c) b = nexus-shows c.shows c b
+nexus-took (RogueConnected s n) b = refl
 
 -- of the live tickets that of the connection's nexus alone matters
 ticket-same : (live other : Nexus → Option ℕ) (t : Target) (o : Option Nexus) → ((n : Nexus) → o ≡ Some n → live n ≡ other n) → ticket_for live t o ≡ ticket_for other t o
@@ -101,7 +101,7 @@ begins_if-same live other false t f = refl
 
 took_where-same : (live other : Nexus → Option ℕ) (takes : Bool) (t : Target) (b : ℕ) → ((n : Nexus) → nexus_of t.link ≡ Some n → live n ≡ other n) → took_where live takes t b ≡ took_where other takes t b
 took_where-same live other true t b f =
-    let l : Link = link_took t.link b in
+    let l : ConnectionState = link_took t.link b in
     begins_if-same live other (whole_by l) (linked t l) (λ n e. f n (sym (nexus-took t.link b) ∙ e))
 took_where-same live other false t b f = refl
 

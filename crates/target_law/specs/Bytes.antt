@@ -9,14 +9,15 @@ use Rattle.scsi_words.specs.declared.statuses.kinds.Status.{Status}
 use Rattle.scsi_words.specs.Messages.{message_code}
 use Rattle.scsi_words.specs.Statuses.{status_code}
 use Rattle.plain_lun.specs.Performing.{Answered}
-use Rattle.target_law.specs.declared.showing.NamePart.{NamePart}
-use Rattle.target_law.specs.declared.showing.NamePart.TheVariants as part
-use Rattle.target_law.specs.declared.showing.Note.{Note}
-use Rattle.target_law.specs.declared.showing.Note.TheVariants.{Name, Complete, SaveThenLeave, SaveNow, RestoreNow, LeaveNow}
-use Rattle.target_law.specs.declared.showing.Showing.{Showing}
-use Rattle.target_law.specs.declared.showing.Showing.TheVariants.{Choosing, Hearing, Sending, Receiving, Telling, Saying}
-use Rattle.target_law.specs.declared.showing.Verdict.{Verdict}
-use Rattle.target_law.specs.declared.showing.Verdict.TheVariants.{Answered as HasAnswered, Refused}
+use Rattle.target_law.specs.declared.task_phase.ReselectByte.{ReselectByte}
+use Rattle.target_law.specs.declared.task_phase.ReselectByte.TheVariants as part
+use Rattle.target_law.specs.declared.task_phase.TargetMessage.{TargetMessage}
+use Rattle.target_law.specs.declared.task_phase.TargetMessage.TheVariants.{Reselection, CommandComplete, SaveThenDisconnect, SaveDataPointer, RestorePointers, Disconnect}
+use Rattle.target_law.specs.declared.task_phase.TaskPhase.{TaskPhase}
+use Rattle.target_law.specs.declared.task_phase.TaskPhase.TheVariants as task_phase
+use Rattle.target_law.specs.declared.task_phase.TaskPhase.TheVariants.{ToChoose, MessageOut, DataIn, DataOut, MessageIn}
+use Rattle.target_law.specs.declared.task_phase.Completion.{Completion}
+use Rattle.target_law.specs.declared.task_phase.Completion.TheVariants.{Answered as HasAnswered, Refused}
 use Rattle.target_law.specs.Session.{Task, says}
 
 -- a connected task: the LUN of its unit, whether a reselection began the connection, the bytes of a message that it hears, and what it shows
@@ -25,32 +26,32 @@ pub record Connection : Type 0 where
   pub reselected : Bool
   pub heard : List ℕ
   pub task : Task
-  pub shows : Showing
+  pub shows : TaskPhase
 
 -- the phase that is shown, if one is
-abbrev pub phase_of : Showing → Option BusPhase
-phase_of Choosing = None
-phase_of Hearing = Some phase.MsgOut
-phase_of (Sending n) = Some phase.DataIn
-phase_of (Receiving n) = Some phase.DataOut
-phase_of (Telling v) = Some phase.Status
-phase_of (Saying n sent) = Some phase.MsgIn
+abbrev pub phase_of : TaskPhase → Option BusPhase
+phase_of ToChoose = None
+phase_of MessageOut = Some phase.MsgOut
+phase_of (DataIn n) = Some phase.DataIn
+phase_of (DataOut n) = Some phase.DataOut
+phase_of (task_phase.Status v) = Some phase.Status
+phase_of (MessageIn n sent) = Some phase.MsgIn
 
 -- the byte of each part of a reselection's name
-abbrev pub name_byte : NamePart → (lun tag : ℕ) → ℕ
-name_byte part.Lun lun tag = message_code (message.Identify false lun)
-name_byte part.Queue lun tag = message_code message.SimpleTag
+abbrev pub name_byte : ReselectByte → (lun tag : ℕ) → ℕ
+name_byte part.Identify lun tag = message_code (message.Identify false lun)
+name_byte part.SimpleQueueTag lun tag = message_code message.SimpleTag
 name_byte part.Tag lun tag = tag
 
-abbrev pub note_byte : Note → (lun tag : ℕ) → ℕ
-note_byte (Name p) lun tag = name_byte p lun tag
-note_byte (Complete v) lun tag = message_code message.Complete
-note_byte SaveThenLeave lun tag = message_code message.Save
-note_byte SaveNow lun tag = message_code message.Save
-note_byte RestoreNow lun tag = message_code message.Restore
-note_byte LeaveNow lun tag = message_code message.Leave
+abbrev pub message_in_byte : TargetMessage → (lun tag : ℕ) → ℕ
+message_in_byte (Reselection p) lun tag = name_byte p lun tag
+message_in_byte (CommandComplete v) lun tag = message_code message.Complete
+message_in_byte SaveThenDisconnect lun tag = message_code message.Save
+message_in_byte SaveDataPointer lun tag = message_code message.Save
+message_in_byte RestorePointers lun tag = message_code message.Restore
+message_in_byte Disconnect lun tag = message_code message.Leave
 
-abbrev pub status_told : Verdict → Status
+abbrev pub status_told : Completion → Status
 status_told (HasAnswered st) = st
 status_told (Refused st) = st
 
@@ -60,19 +61,19 @@ data_at None position = None
 data_at (Some kept) position = slice_get kept.bytes position
 
 -- the byte that a connected task has for the initiator, if it has one
-abbrev pub byte_by : Showing → Task → (lun : ℕ) → Option ℕ
-byte_by Choosing k lun = None
-byte_by Hearing k lun = None
-byte_by (Sending n) k lun = data_at k.kept k.position
-byte_by (Receiving n) k lun = None
-byte_by (Telling v) k lun = Some (status_code (status_told v))
-byte_by (Saying n false) k lun = Some (note_byte n lun k.tag)
-byte_by (Saying n true) k lun = None
+abbrev pub byte_by : TaskPhase → Task → (lun : ℕ) → Option ℕ
+byte_by ToChoose k lun = None
+byte_by MessageOut k lun = None
+byte_by (DataIn n) k lun = data_at k.kept k.position
+byte_by (DataOut n) k lun = None
+byte_by (task_phase.Status v) k lun = Some (status_code (status_told v))
+byte_by (MessageIn n false) k lun = Some (message_in_byte n lun k.tag)
+byte_by (MessageIn n true) k lun = None
 
 -- after one byte of a data phase of n bytes it has one less, and its end is a choice
-abbrev pub one_less : ℕ → (ℕ → Showing) → Showing
-one_less zero shows = Choosing
-one_less (suc zero) shows = Choosing
+abbrev pub one_less : ℕ → (ℕ → TaskPhase) → TaskPhase
+one_less zero shows = ToChoose
+one_less (suc zero) shows = ToChoose
 one_less (suc (suc n)) shows = shows (suc n)
 
 -- the position goes on by one byte
@@ -80,13 +81,13 @@ abbrev pub advanced : Task → List ℕ → Task
 advanced k received = record k { position = k.position + 1; high = max k.high (k.position + 1); received = received }
 
 -- the connection after a byte that it had for the initiator
-abbrev pub sent_by : Showing → Connection → Connection
-sent_by Choosing c = c
-sent_by Hearing c = c
-sent_by (Sending n) c = record c { task = advanced c.task c.task.received; shows = one_less n Sending }
-sent_by (Receiving n) c = c
-sent_by (Telling v) c = record c { shows = says (Complete v) }
-sent_by (Saying n sent) c = record c { shows = Saying n true }
+abbrev pub sent_by : TaskPhase → Connection → Connection
+sent_by ToChoose c = c
+sent_by MessageOut c = c
+sent_by (DataIn n) c = record c { task = advanced c.task c.task.received; shows = one_less n DataIn }
+sent_by (DataOut n) c = c
+sent_by (task_phase.Status v) c = record c { shows = says (CommandComplete v) }
+sent_by (MessageIn n sent) c = record c { shows = MessageIn n true }
 
 -- this byte at a place of what was received
 abbrev pub put : List ℕ → ℕ → ℕ → List ℕ
@@ -97,35 +98,35 @@ abbrev pub hears : List ℕ → ℕ → List ℕ
 hears heard b = take 4 (heard ++ b ∷ [])
 
 -- whether it takes a byte
-abbrev pub takes_by : Showing → Bool
-takes_by Hearing = true
-takes_by (Receiving n) = true
+abbrev pub takes_by : TaskPhase → Bool
+takes_by MessageOut = true
+takes_by (DataOut n) = true
 takes_by _ = false
 
 -- the connection after a byte that it took
-abbrev pub took_by : Showing → Connection → ℕ → Connection
-took_by Hearing c b = record c { heard = hears c.heard b }
-took_by (Receiving n) c b = record c { task = advanced c.task (put c.task.received c.task.position b); shows = one_less n Receiving }
+abbrev pub took_by : TaskPhase → Connection → ℕ → Connection
+took_by MessageOut c b = record c { heard = hears c.heard b }
+took_by (DataOut n) c b = record c { task = advanced c.task (put c.task.received c.task.position b); shows = one_less n DataOut }
 took_by _ c b = c
 
 -- the position is saved, or goes back to the saved one
-abbrev pub saves : Connection → Showing → Connection
+abbrev pub saves : Connection → TaskPhase → Connection
 saves c shows = record c { task = record c.task { saved = c.task.position }; shows = shows }
 
-abbrev pub restores : Connection → Showing → Connection
+abbrev pub restores : Connection → TaskPhase → Connection
 restores c shows = record c { task = record c.task { position = c.task.saved }; shows = shows }
 
 -- A message is acknowledged after which the task stays connected. After the name of a reselection, SAVE DATA POINTER alone and RESTORE
 -- POINTERS it is to choose.
-abbrev pub heard_by : Note → Connection → Connection
-heard_by (Name part.Lun) c = record c { shows = says (Name part.Queue) }
-heard_by (Name part.Queue) c = record c { shows = says (Name part.Tag) }
-heard_by (Name part.Tag) c = record c { shows = Choosing }
-heard_by SaveThenLeave c = saves c (says LeaveNow)
-heard_by SaveNow c = saves c Choosing
-heard_by RestoreNow c = restores c Choosing
-heard_by (Complete v) c = c
-heard_by LeaveNow c = c
+abbrev pub heard_by : TargetMessage → Connection → Connection
+heard_by (Reselection part.Identify) c = record c { shows = says (Reselection part.SimpleQueueTag) }
+heard_by (Reselection part.SimpleQueueTag) c = record c { shows = says (Reselection part.Tag) }
+heard_by (Reselection part.Tag) c = record c { shows = ToChoose }
+heard_by SaveThenDisconnect c = saves c (says Disconnect)
+heard_by SaveDataPointer c = saves c ToChoose
+heard_by RestorePointers c = restores c ToChoose
+heard_by (CommandComplete v) c = c
+heard_by Disconnect c = c
 
 -- a task that leaves the bus goes back to its saved position
 abbrev pub away : Task → Task

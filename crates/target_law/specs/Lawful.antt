@@ -3,12 +3,12 @@ use Rattle.std.specs.Prelude.{◌≡◌, ℕ, Option, Some, None}
 use Rattle.unit_law.specs.Log.{tally}
 use Rattle.target_law.specs.declared.moves.Move.{Move}
 use Rattle.target_law.specs.declared.moves.Move.TheVariants.{Rogue}
-use Rattle.target_law.specs.declared.showing.Showing.TheVariants.{Choosing}
-use Rattle.target_law.specs.declared.stray.Stray.TheVariants as stray
+use Rattle.target_law.specs.declared.task_phase.TaskPhase.TheVariants.{ToChoose}
+use Rattle.target_law.specs.declared.rogue_phase.RoguePhase.TheVariants as rogue_shows
 use Rattle.target_law.specs.Session.{Can}
 use Rattle.target_law.specs.Choice.{Names}
 use Rattle.target_law.specs.Bytes.{Connection}
-use Rattle.target_law.specs.Target.{LogicalUnit, Link, Free, Greeted, Commanded, Working, Straying, Target, unit_at, session}
+use Rattle.target_law.specs.Target.{LogicalUnit, ConnectionState, BusFree, Selected, TakingCommand, TaskConnected, RogueConnected, Target, unit_at, session}
 
 -- there is a unit, and this holds of it
 abbrev pub IsThere : Option LogicalUnit → (LogicalUnit → Type 0) → Type 0
@@ -26,18 +26,18 @@ abbrev pub NamesOf : LogicalUnit → Connection → ℕ → Move → Type 0
 NamesOf u c word m = Names (session u c) u.rig.refusals (refused_so_far u c.task.ticket) word m
 
 -- a target that is to choose may make this move; where its units break the rules, any move by a word
-abbrev pub MayBy : Link → Target → Move → Type 0
-MayBy (Working c) t m = (c.shows ≡ Choosing) × IsThere (unit_at t.units c.lun) (λ u. CanOf u c m)
-MayBy (Straying s n) t m = (s ≡ stray.Choosing) × ((word : ℕ) × (m ≡ Rogue word))
+abbrev pub MayBy : ConnectionState → Target → Move → Type 0
+MayBy (TaskConnected c) t m = (c.shows ≡ ToChoose) × IsThere (unit_at t.units c.lun) (λ u. CanOf u c m)
+MayBy (RogueConnected s n) t m = (s ≡ rogue_shows.ToChoose) × ((word : ℕ) × (m ≡ Rogue word))
 MayBy _ t m = ⊥
 
 abbrev pub May : Target → Move → Type 0
 May t m = MayBy t.link t m
 
 -- the word names this move of a target that is to choose
-abbrev pub NamedBy : Link → Target → ℕ → Move → Type 0
-NamedBy (Working c) t word m = IsThere (unit_at t.units c.lun) (λ u. NamesOf u c word m)
-NamedBy (Straying s n) t word m = m ≡ Rogue word
+abbrev pub NamedBy : ConnectionState → Target → ℕ → Move → Type 0
+NamedBy (TaskConnected c) t word m = IsThere (unit_at t.units c.lun) (λ u. NamesOf u c word m)
+NamedBy (RogueConnected s n) t word m = m ≡ Rogue word
 NamedBy _ t word m = ⊥
 
 abbrev pub Named : Target → ℕ → Move → Type 0

@@ -4,7 +4,7 @@ use Rattle.target_law.specs.declared.moves.Move.{Move}
 use Rattle.target_law.specs.declared.nexus.Nexus.{Nexus}
 use Rattle.rig_types.specs.declared.rig.Unit.{Unit as RigUnit}
 use Rattle.target_law.specs.Sound.{HaveDistinctTags}
-use Rattle.target_law.specs.Target.{LogicalUnit, Commanded, Target, unit_at, linked, target_opened, target_reset}
+use Rattle.target_law.specs.Target.{LogicalUnit, TakingCommand, Target, unit_at, linked, target_opened, target_reset}
 use Rattle.target_law.specs.Calls.{link_phase, is_whole, whole_by, asked_by, link_byte, sent_if, link_takes, took_if, target_selected, target_reselected, target_acted, target_messaged, target_acked, target_begun}
 use Rattle.target_law.specs.Beginning.{target_took}
 use Rattle.target_law.specs.Devices.{DeviceState, room_at, lie_within, where_room}
@@ -47,7 +47,7 @@ pub record TagsStayDistinct : Type 0 where
 -- no command waits for its task: after the call that took its last byte none is whole, and no phase is shown
 pub record BeginsAtOnce : Type 0 where
   pub begun : (live : Nexus → Option ℕ) (t : Target) (b : ℕ) → whole_by t.link ≡ false → whole_by (target_took live t b).link ≡ false
-  pub shows_none : (live : Nexus → Option ℕ) (t : Target) (b : ℕ) (n : Nexus) (taken : List ℕ) → t.link ≡ Commanded n taken → is_whole taken ≡ false → is_whole (taken ++ b ∷ []) ≡ true
+  pub shows_none : (live : Nexus → Option ℕ) (t : Target) (b : ℕ) (n : Nexus) (taken : List ℕ) → t.link ≡ TakingCommand n taken → is_whole taken ≡ false → is_whole (taken ++ b ∷ []) ≡ true
       → link_phase (target_took live t b).link ≡ None
 
 -- the logs of these units lie within their rooms exactly where each is no longer than the room of its LUN

@@ -1,7 +1,7 @@
 pub mod Session
 pub mod Choice
 pub mod Bytes
-pub mod Strays
+pub mod RoguePhases
 pub mod Target
 pub mod Calls
 pub mod Beginning

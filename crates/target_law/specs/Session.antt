@@ -9,18 +9,19 @@ use Rattle.scsi_words.specs.declared.statuses.kinds.Status.TheVariants as status
 use Rattle.cdb_codec.specs.declared.commands.Cdb.{Cdb}
 use Rattle.cdb_codec.specs.declared.commands.Cdb.TheVariants.{RequestSense}
 use Rattle.cdb_codec.specs.Forms.{need_of}
-use Rattle.plain_lun.specs.Unit.{Plain}
+use Rattle.plain_lun.specs.Unit.{UnitState}
 use Rattle.plain_lun.specs.Performing.{Answered, Performed, perform, wants_now}
 use Rattle.unit_law.specs.declared.entry.LogEntry.{LogEntry}
 use Rattle.unit_law.specs.declared.entry.LogEntry.TheVariants.{Refuse, Look, End, Sense}
 use Rattle.target_law.specs.declared.moves.Move.{Move}
 use Rattle.target_law.specs.declared.moves.Move.TheVariants as move
-use Rattle.target_law.specs.declared.showing.Note.{Note}
-use Rattle.target_law.specs.declared.showing.Note.TheVariants as note
-use Rattle.target_law.specs.declared.showing.Showing.{Showing}
-use Rattle.target_law.specs.declared.showing.Showing.TheVariants.{Choosing, Sending, Receiving, Telling, Saying}
-use Rattle.target_law.specs.declared.showing.Verdict.{Verdict}
-use Rattle.target_law.specs.declared.showing.Verdict.TheVariants as verdict
+use Rattle.target_law.specs.declared.task_phase.TargetMessage.{TargetMessage}
+use Rattle.target_law.specs.declared.task_phase.TargetMessage.TheVariants as target_message
+use Rattle.target_law.specs.declared.task_phase.TaskPhase.{TaskPhase}
+use Rattle.target_law.specs.declared.task_phase.TaskPhase.TheVariants as task_phase
+use Rattle.target_law.specs.declared.task_phase.TaskPhase.TheVariants.{ToChoose, DataIn, DataOut, MessageIn}
+use Rattle.target_law.specs.declared.task_phase.Completion.{Completion}
+use Rattle.target_law.specs.declared.task_phase.Completion.TheVariants as completion
 
 -- A task: its tag and ticket, its command, the position of its data, the saved position, the greatest position reached, and how many moves
 -- of the four that spend are left. `kept` is the answer of a command that was performed at its first data phase, `received` what a write
@@ -41,17 +42,17 @@ pub record Task : Type 0 where
   pub senses : Bool
 
 pub record Session : Type 0 where
-  pub unit : Plain
+  pub unit : UnitState
   pub log : List LogEntry
   pub task : Task
-  pub shows : Showing
+  pub shows : TaskPhase
 
 -- the bytes of its data phases, from first to last
 abbrev pub total_of : Option Answered → ℕ → ℕ
 total_of (Some kept) wanted = length kept.bytes
 total_of None wanted = wanted
 
-abbrev pub total : Plain → Task → ℕ
+abbrev pub total : UnitState → Task → ℕ
 total u k = total_of k.kept (wants_now u k.cdb).bytes
 
 -- how many of them are still to move
@@ -63,7 +64,7 @@ abbrev pub status_by : Option Answered → Status → Status
 status_by (Some kept) now = kept.status
 status_by None now = now
 
-abbrev pub status_of : Plain → Task → Status
+abbrev pub status_of : UnitState → Task → Status
 status_of u k = status_by k.kept (perform u k.cdb []).answer.status
 
 -- A data phase of n bytes is lawful, or with n = 0 the status: not where the task has just moved data and wants more; of at least one byte
@@ -92,21 +93,21 @@ Can move.Restore s limit refused = 0 < s.task.budget
 Can (move.Rogue word) s limit refused = ⊥
 
 -- a move that is no data phase
-abbrev pub turned : Session → ℕ → Showing → Session
+abbrev pub turned : Session → ℕ → TaskPhase → Session
 turned s budget shows = record s { task = record s.task { budget = budget; fresh = false; just_moved = false }; shows = shows }
 
-abbrev pub says : Note → Showing
-says n = Saying n false
+abbrev pub says : TargetMessage → TaskPhase
+says n = MessageIn n false
 
 -- one of the four moves that spend
-abbrev pub spent : Session → Note → Session
+abbrev pub spent : Session → TargetMessage → Session
 spent s n = turned s (s.task.budget - 1) (says n)
 
-abbrev pub tells : Session → Verdict → Session
-tells s v = turned s s.task.budget (Telling v)
+abbrev pub tells : Session → Completion → Session
+tells s v = turned s s.task.budget (task_phase.Status v)
 
 -- a data phase
-abbrev pub moves : Session → Showing → Session
+abbrev pub moves : Session → TaskPhase → Session
 moves s shows = record s { task = record s.task { fresh = false; just_moved = true }; shows = shows }
 
 -- the answer is kept
@@ -128,24 +129,24 @@ looked None s = looked_by s.task.senses s (perform s.unit s.task.cdb [])
 
 -- a data phase by the direction of the command's data
 abbrev pub phased : Direction → Session → ℕ → Session
-phased In s n = moves (looked s.task.kept s) (Sending n)
-phased Out s n = moves s (Receiving n)
+phased In s n = moves (looked s.task.kept s) (DataIn n)
+phased Out s n = moves s (DataOut n)
 phased NoData s n = s
 
 -- Go with nothing left is the status
 abbrev pub gone : ℕ → Session → ℕ → Session
-gone zero s n = tells s (verdict.Answered (status_of s.unit s.task))
+gone zero s n = tells s (completion.Answered (status_of s.unit s.task))
 gone (suc left) s n = phased (need_of s.task.cdb).direction s n
 
 -- the session after a move
 unfoldable pub acted : Move → Session → Session
 acted (move.Go n) s = gone (remaining s) s n
-acted move.Busy s = tells s (verdict.Refused status.Busy)
-acted move.QueueFull s = tells s (verdict.Refused status.QueueFull)
-acted move.Leave s = spent s note.LeaveNow
-acted move.SaveLeave s = spent s note.SaveThenLeave
-acted move.Save s = spent s note.SaveNow
-acted move.Restore s = spent s note.RestoreNow
+acted move.Busy s = tells s (completion.Refused status.Busy)
+acted move.QueueFull s = tells s (completion.Refused status.QueueFull)
+acted move.Leave s = spent s target_message.Disconnect
+acted move.SaveLeave s = spent s target_message.SaveThenDisconnect
+acted move.Save s = spent s target_message.SaveDataPointer
+acted move.Restore s = spent s target_message.RestorePointers
 acted (move.Rogue word) s = s
 
 -- COMMAND COMPLETE is acknowledged. A command that wasn't performed at its first data phase is performed now.
@@ -158,9 +159,9 @@ abbrev pub closed_by : Bool → Session → Session
 closed_by true s = record s { unit = (perform s.unit (RequestSense 18) []).unit; log = s.log ++ Sense s.task.ticket ∷ [] }
 closed_by false s = ended s.task.kept s (perform s.unit s.task.cdb s.task.received)
 
-unfoldable pub closed : Verdict → Session → Session
-closed (verdict.Refused st) s = record s { log = s.log ++ Refuse s.task.ticket st ∷ [] }
-closed (verdict.Answered st) s = closed_by s.task.senses s
+unfoldable pub closed : Completion → Session → Session
+closed (completion.Refused st) s = record s { log = s.log ++ Refuse s.task.ticket st ∷ [] }
+closed (completion.Answered st) s = closed_by s.task.senses s
 
 -- a fresh task: `ended` says that its ticket has End in the unit's log
 abbrev pub asks_sense : Cdb → Bool → Bool

@@ -4,21 +4,21 @@ use Rattle.std.specs.List.{All, AllPairs}
 use Rattle.scsi_words.specs.declared.phases.kinds.Direction.{Direction}
 use Rattle.scsi_words.specs.declared.phases.kinds.Direction.TheVariants.{In, Out, None as NoData}
 use Rattle.cdb_codec.specs.Forms.{FitsForm, need_of}
-use Rattle.plain_lun.specs.Unit.{Plain}
+use Rattle.plain_lun.specs.Unit.{UnitState}
 use Rattle.plain_lun.specs.Performing.{Answered, wants_now}
-use Rattle.target_law.specs.declared.showing.Note.{Note}
-use Rattle.target_law.specs.declared.showing.Note.TheVariants.{Name, Complete, SaveThenLeave, SaveNow, RestoreNow, LeaveNow}
-use Rattle.target_law.specs.declared.showing.Showing.{Showing}
-use Rattle.target_law.specs.declared.showing.Showing.TheVariants.{Choosing, Hearing, Sending, Receiving, Telling, Saying}
-use Rattle.target_law.specs.declared.showing.Verdict.{Verdict}
-use Rattle.target_law.specs.declared.showing.Verdict.TheVariants.{Answered as HasAnswered, Refused}
+use Rattle.target_law.specs.declared.task_phase.TargetMessage.{TargetMessage}
+use Rattle.target_law.specs.declared.task_phase.TargetMessage.TheVariants.{Reselection, CommandComplete, SaveThenDisconnect, SaveDataPointer, RestorePointers, Disconnect}
+use Rattle.target_law.specs.declared.task_phase.TaskPhase.{TaskPhase}
+use Rattle.target_law.specs.declared.task_phase.TaskPhase.TheVariants.{ToChoose, MessageOut, DataIn, DataOut, Status, MessageIn}
+use Rattle.target_law.specs.declared.task_phase.Completion.{Completion}
+use Rattle.target_law.specs.declared.task_phase.Completion.TheVariants.{Answered as HasAnswered, Refused}
 use Rattle.target_law.specs.Session.{Task, Session, remaining, status_of}
 use Rattle.target_law.specs.Choice.{Choosable}
-use Rattle.target_law.specs.Target.{LogicalUnit, Link, Working, Target, unit_at}
+use Rattle.target_law.specs.Target.{LogicalUnit, ConnectionState, TaskConnected, Target, unit_at}
 
 -- a command that sends moves what is kept; one that receives was performed nowhere, and has received no more than the unit wants; nothing
 -- else has moved
-abbrev pub HasMoved : Direction → Option Answered → Plain → Task → Type 0
+abbrev pub HasMoved : Direction → Option Answered → UnitState → Task → Type 0
 HasMoved In (Some a) u k = (k.high ≤ length a.bytes) × (length a.bytes ≤ (need_of k.cdb).bytes) × (k.received ≡ [])
 HasMoved In None u k = (k.high ≡ 0) × (k.received ≡ [])
 HasMoved Out (Some a) u k = ⊥
@@ -26,7 +26,7 @@ HasMoved Out None u k = (k.high ≡ length k.received) × (length k.received ≤
 HasMoved NoData (Some a) u k = ⊥
 HasMoved NoData None u k = (k.high ≡ 0) × (k.received ≡ [])
 
-pub record IsSoundTask (u : Plain) (k : Task) : Type 0 where
+pub record IsSoundTask (u : UnitState) (k : Task) : Type 0 where
   pub fits : FitsForm k.cdb
   pub small : (need_of k.cdb).bytes ≤ 65536
   pub position : k.position ≤ k.high
@@ -47,34 +47,34 @@ pub record IsReceiving (s : Session) (n : ℕ) : Type 0 where
   pub most : n ≤ remaining s
   pub all : s.task.budget ≡ 0 → n ≡ remaining s
 
-abbrev pub Ends : Verdict → Session → Type 0
+abbrev pub Ends : Completion → Session → Type 0
 Ends (HasAnswered st) s = (remaining s ≡ 0) × (st ≡ status_of s.unit s.task)
 Ends (Refused st) s = Unit {0}
 
-abbrev pub IsWorthNote : Note → Session → Type 0
-IsWorthNote (Complete v) s = Ends v s
-IsWorthNote n s = s.task.just_moved ≡ false
+abbrev pub IsWorthMessage : TargetMessage → Session → Type 0
+IsWorthMessage (CommandComplete v) s = Ends v s
+IsWorthMessage n s = s.task.just_moved ≡ false
 
-abbrev pub IsWorth : Showing → Session → Type 0
-IsWorth Choosing s = Choosable s
-IsWorth Hearing s = Unit {0}
-IsWorth (Sending n) s = IsSending s n
-IsWorth (Receiving n) s = IsReceiving s n
-IsWorth (Telling v) s = Ends v s
-IsWorth (Saying n sent) s = IsWorthNote n s
+abbrev pub IsWorth : TaskPhase → Session → Type 0
+IsWorth ToChoose s = Choosable s
+IsWorth MessageOut s = Unit {0}
+IsWorth (DataIn n) s = IsSending s n
+IsWorth (DataOut n) s = IsReceiving s n
+IsWorth (Status v) s = Ends v s
+IsWorth (MessageIn n sent) s = IsWorthMessage n s
 
 pub record IsSound (s : Session) : Type 0 where
   pub task : IsSoundTask s.unit s.task
   pub worth : IsWorth s.shows s
 
 -- a task that isn't connected
-pub record IsWaiting (u : Plain) (k : Task) : Type 0 where
+pub record IsWaiting (u : UnitState) (k : Task) : Type 0 where
   pub task : IsSoundTask u k
   pub turn : k.just_moved ≡ false
 
 -- the tasks of a unit by its LUN: one that is connected, and those that aren't
-abbrev pub tasks_at : Link → (lun : ℕ) → LogicalUnit → List Task
-tasks_at (Working c) lun u = if c.lun == lun then c.task ∷ u.tasks else u.tasks
+abbrev pub tasks_at : ConnectionState → (lun : ℕ) → LogicalUnit → List Task
+tasks_at (TaskConnected c) lun u = if c.lun == lun then c.task ∷ u.tasks else u.tasks
 tasks_at _ lun u = u.tasks
 
 -- no two tasks of a unit have one tag

@@ -2,35 +2,35 @@
 -- caller's to know. Sources: SCSI-2 6.2.2 reset condition, 6.6.3 BUS DEVICE RESET; own is what a reset does with tasks.
 use Rattle.std.specs.Prelude.{◌≡◌, ℕ, nat_lt, if◌then◌else◌, Bool, true, false, List, [], ◌∷◌, ◌++◌, map, fold, replicate, slice_get, slice_set, Option, Some, None}
 use Rattle.rig_types.specs.declared.rig.Unit.{Unit as RigUnit}
-use Rattle.plain_lun.specs.Unit.{Plain, opened}
+use Rattle.plain_lun.specs.Unit.{UnitState, opened}
 use Rattle.plain_lun.specs.Losing.{dropped, cleared}
 use Rattle.unit_law.specs.declared.entry.LogEntry.{LogEntry}
 use Rattle.unit_law.specs.declared.entry.LogEntry.TheVariants.{Drop, Clear}
 use Rattle.target_law.specs.declared.nexus.Nexus.{Nexus}
-use Rattle.target_law.specs.declared.stray.Stray.{Stray}
+use Rattle.target_law.specs.declared.rogue_phase.RoguePhase.{RoguePhase}
 use Rattle.target_law.specs.Session.{Task, Session}
 use Rattle.target_law.specs.Bytes.{Connection, away}
 
 -- a logical unit of a target: what the rig says of it, the unit by itself, its log, and its tasks that aren't connected, by rising tag
 pub record LogicalUnit : Type 0 where
   pub rig : RigUnit
-  pub plain : Plain
+  pub plain : UnitState
   pub log : List LogEntry
   pub tasks : List Task
 
 -- what stands between the initiator and a target: nothing; a selection, with the bytes of its message; a nexus, with the bytes of its
 -- command descriptor block; a task; or units that break the rules, with the nexus that a reselection named
-pub data Link : Type 0 where
-  Free : Link
-  Greeted : List ℕ → Link
-  Commanded : Nexus → List ℕ → Link
-  Working : Connection → Link
-  Straying : Stray → Option Nexus → Link
+pub data ConnectionState : Type 0 where
+  BusFree : ConnectionState
+  Selected : List ℕ → ConnectionState
+  TakingCommand : Nexus → List ℕ → ConnectionState
+  TaskConnected : Connection → ConnectionState
+  RogueConnected : RoguePhase → Option Nexus → ConnectionState
 
 -- a target: its units by LUN, 0 to 7, and its link
 pub record Target : Type 0 where
   pub units : List (Option LogicalUnit)
-  pub link : Link
+  pub link : ConnectionState
 
 -- the unit with a LUN, if there is one
 abbrev pub flat : Option (Option LogicalUnit) → Option LogicalUnit
@@ -51,7 +51,7 @@ abbrev pub adds_unit : List (Option LogicalUnit) → RigUnit → List (Option Lo
 adds_unit units r = with_unit units r.lun (unit_opened r)
 
 unfoldable pub target_opened : List RigUnit → Target
-target_opened rs = record { units = fold adds_unit (replicate 8 None) rs; link = Free }
+target_opened rs = record { units = fold adds_unit (replicate 8 None) rs; link = BusFree }
 
 -- the session of a connection, and the unit and the connection after it
 abbrev pub session : LogicalUnit → Connection → Session
@@ -73,13 +73,13 @@ at_lun t lun f = on_unit (unit_at t.units lun) f t
 
 -- the session goes on; or its task is gone, and the bus free
 abbrev pub goes_on : Target → Connection → LogicalUnit → Session → Target
-goes_on t c u s = record { units = with_unit t.units c.lun (unit_after u s); link = Working (connection_after c s) }
+goes_on t c u s = record { units = with_unit t.units c.lun (unit_after u s); link = TaskConnected (connection_after c s) }
 
 abbrev pub ends : Target → Connection → LogicalUnit → Session → Target
-ends t c u s = record { units = with_unit t.units c.lun (unit_after u s); link = Free }
+ends t c u s = record { units = with_unit t.units c.lun (unit_after u s); link = BusFree }
 
 -- the link alone changes
-abbrev pub linked : Target → Link → Target
+abbrev pub linked : Target → ConnectionState → Target
 linked t l = record { units = t.units; link = l }
 
 -- a task goes among the others by its tag
@@ -92,7 +92,7 @@ abbrev pub unit_left : LogicalUnit → Task → LogicalUnit
 unit_left u k = record u { tasks = by_tag (away k) u.tasks }
 
 abbrev pub leaves : Target → Connection → LogicalUnit → Target
-leaves t c u = record { units = with_unit t.units c.lun (unit_left u c.task); link = Free }
+leaves t c u = record { units = with_unit t.units c.lun (unit_left u c.task); link = BusFree }
 
 -- A dropped task logs Drop with the greatest position that it reached, and a write stores the whole blocks that it received; a sense task
 -- is dropped without an entry.
@@ -115,10 +115,10 @@ slot_reset None = None
 slot_reset (Some u) = Some (unit_reset u)
 
 -- the connected task, if there is one, goes among the others
-abbrev pub parted : Link → Target → Target
-parted (Working c) t = at_lun t c.lun (leaves t c)
+abbrev pub parted : ConnectionState → Target → Target
+parted (TaskConnected c) t = at_lun t c.lun (leaves t c)
 parted l t = t
 
 -- a reset of the target, for any cause, frees the bus
 unfoldable pub target_reset : Target → Target
-target_reset t = record { units = map slot_reset (parted t.link t).units; link = Free }
+target_reset t = record { units = map slot_reset (parted t.link t).units; link = BusFree }

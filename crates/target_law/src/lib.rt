@@ -6,11 +6,11 @@
 mod laws;
 mod moves;
 mod nexus;
-mod showing;
-mod stray;
+mod rogue_phase;
+mod task_phase;
 
 pub use laws::{begins_at_once, lies_by_rooms, rigs_stay, tags_stay_distinct};
 pub use moves::Move;
 pub use nexus::Nexus;
-pub use showing::{NamePart, Note, Showing, Verdict};
-pub use stray::Stray;
+pub use rogue_phase::RoguePhase;
+pub use task_phase::{Completion, ReselectByte, TargetMessage, TaskPhase};

@@ -8,14 +8,14 @@ use Rattle.target_rows.specs.Calls.{is_message_in}
 use Rattle.std.specs.List.{list_any}
 use Rattle.scsi_words.specs.declared.phases.kinds.Phase.TheVariants as phase
 use Rattle.rig_types.specs.declared.rig.Unit.{Unit as RigUnit}
-use Rattle.target_law.specs.declared.showing.Showing.{Showing}
-use Rattle.target_law.specs.declared.showing.Showing.TheVariants.{Choosing, Hearing, Sending, Receiving, Telling, Saying}
-use Rattle.target_law.specs.declared.stray.Stray.{Stray}
-use Rattle.target_law.specs.declared.stray.Stray.TheVariants as stray
+use Rattle.target_law.specs.declared.task_phase.TaskPhase.{TaskPhase}
+use Rattle.target_law.specs.declared.task_phase.TaskPhase.TheVariants.{ToChoose, MessageOut, DataIn, DataOut, Status, MessageIn}
+use Rattle.target_law.specs.declared.rogue_phase.RoguePhase.{RoguePhase}
+use Rattle.target_law.specs.declared.rogue_phase.RoguePhase.TheVariants as rogue_shows
 use Rattle.target_law.specs.declared.nexus.Nexus.{Nexus}
 use Rattle.target_law.specs.Bytes.{Connection, phase_of, byte_by, sent_by}
-use Rattle.target_law.specs.Strays.{stray_phase, stray_byte, stray_sent}
-use Rattle.target_law.specs.Target.{LogicalUnit, unit_opened, Link, Free, Greeted, Commanded, Working, Straying, Target, unit_at, with_unit, target_opened}
+use Rattle.target_law.specs.RoguePhases.{rogue_phase, rogue_byte, rogue_sent}
+use Rattle.target_law.specs.Target.{LogicalUnit, unit_opened, ConnectionState, BusFree, Selected, TakingCommand, TaskConnected, RogueConnected, Target, unit_at, with_unit, target_opened}
 use Rattle.target_law.specs.Calls.{is_free, link_phase, link_byte, sent_if, candidates, is_rogue, slot_answers, slot_has_unit, answers, is_absent, IsToChoose, WaitsForAck}
 use Rattle.target_law.specs.Devices.{DeviceState, device_opened, lie_within, where_room, room_at, reserved_for, device_reserved}
 use Rattle.target_law.proofs.Rooms.{device_reserved-target}
@@ -71,77 +71,77 @@ present-is t r h =
     and-not (list_any slot_has_unit t.units) (list_any slot_answers t.units) a
 
 -- connected, and no phase is shown
-shows-none : (s : Showing) → phase_of s ≡ None → s ≡ Choosing
-shows-none Choosing e = refl
-shows-none Hearing e = cc
-shows-none (Sending n) e = cc
-shows-none (Receiving n) e = cc
-shows-none (Telling v) e = cc
-shows-none (Saying n sent) e = cc
+shows-none : (s : TaskPhase) → phase_of s ≡ None → s ≡ ToChoose
+shows-none ToChoose e = refl
+shows-none MessageOut e = cc
+shows-none (DataIn n) e = cc
+shows-none (DataOut n) e = cc
+shows-none (Status v) e = cc
+shows-none (MessageIn n sent) e = cc
 
-stray-none : (s : Stray) → stray_phase s ≡ None → s ≡ stray.Choosing
-stray-none stray.Choosing e = refl
-stray-none stray.Hearing e = cc
-stray-none (stray.Sending left b) e = cc
-stray-none (stray.Receiving left) e = cc
-stray-none (stray.Commanding left) e = cc
-stray-none (stray.Telling b) e = cc
-stray-none (stray.Saying b sent) e = cc
-stray-none (stray.Naming p sent) e = cc
+rogue-none : (s : RoguePhase) → rogue_phase s ≡ None → s ≡ rogue_shows.ToChoose
+rogue-none rogue_shows.ToChoose e = refl
+rogue-none rogue_shows.MessageOut e = cc
+rogue-none (rogue_shows.DataIn left b) e = cc
+rogue-none (rogue_shows.DataOut left) e = cc
+rogue-none (rogue_shows.Command left) e = cc
+rogue-none (rogue_shows.Status b) e = cc
+rogue-none (rogue_shows.MessageIn b sent) e = cc
+rogue-none (rogue_shows.Reselection p sent) e = cc
 
-pub to-choose : (l : Link) → is_free l ≡ false → link_phase l ≡ None → IsToChoose l
-to-choose Free e f = cc
-to-choose (Greeted heard) e f = cc
-to-choose (Commanded n taken) e f = cc
-to-choose (Working c) e f = shows-none c.shows f
-to-choose (Straying s n) e f = stray-none s f
+pub to-choose : (l : ConnectionState) → is_free l ≡ false → link_phase l ≡ None → IsToChoose l
+to-choose BusFree e f = cc
+to-choose (Selected heard) e f = cc
+to-choose (TakingCommand n taken) e f = cc
+to-choose (TaskConnected c) e f = shows-none c.shows f
+to-choose (RogueConnected s n) e f = rogue-none s f
 
 -- a byte of a message was sent
-waits-working : (s : Showing) (c : Connection) (b : ℕ) → c.shows ≡ s → phase_of s ≡ Some phase.MsgIn → byte_by s c.task c.lun ≡ Some b → WaitsForAck (Working (sent_by s c))
-waits-working Choosing c b i e f = cc
-waits-working Hearing c b i e f = cc
-waits-working (Sending n) c b i e f = cc
-waits-working (Receiving n) c b i e f = cc
-waits-working (Telling v) c b i e f = cc
-waits-working (Saying n sent) c b i e f = (n, refl)
+waits-working : (s : TaskPhase) (c : Connection) (b : ℕ) → c.shows ≡ s → phase_of s ≡ Some phase.MsgIn → byte_by s c.task c.lun ≡ Some b → WaitsForAck (TaskConnected (sent_by s c))
+waits-working ToChoose c b i e f = cc
+waits-working MessageOut c b i e f = cc
+waits-working (DataIn n) c b i e f = cc
+waits-working (DataOut n) c b i e f = cc
+waits-working (Status v) c b i e f = cc
+waits-working (MessageIn n sent) c b i e f = (n, refl)
 
-waits-stray : (s : Stray) (n : Option Nexus) (b : ℕ) → stray_phase s ≡ Some phase.MsgIn → stray_byte s n ≡ Some b → WaitsForAck (Straying (stray_sent s) n)
-waits-stray stray.Choosing n b e f = cc
-waits-stray stray.Hearing n b e f = cc
-waits-stray (stray.Sending left x) n b e f = cc
-waits-stray (stray.Receiving left) n b e f = cc
-waits-stray (stray.Commanding left) n b e f = cc
-waits-stray (stray.Telling x) n b e f = cc
-waits-stray (stray.Saying x sent) n b e f = inl (x, refl)
-waits-stray (stray.Naming p sent) n b e f = inr (p, refl)
+waits-rogue : (s : RoguePhase) (n : Option Nexus) (b : ℕ) → rogue_phase s ≡ Some phase.MsgIn → rogue_byte s n ≡ Some b → WaitsForAck (RogueConnected (rogue_sent s) n)
+waits-rogue rogue_shows.ToChoose n b e f = cc
+waits-rogue rogue_shows.MessageOut n b e f = cc
+waits-rogue (rogue_shows.DataIn left x) n b e f = cc
+waits-rogue (rogue_shows.DataOut left) n b e f = cc
+waits-rogue (rogue_shows.Command left) n b e f = cc
+waits-rogue (rogue_shows.Status x) n b e f = cc
+waits-rogue (rogue_shows.MessageIn x sent) n b e f = inl (x, refl)
+waits-rogue (rogue_shows.Reselection p sent) n b e f = inr (p, refl)
 
-waits-by : (l : Link) (b : ℕ) → link_phase l ≡ Some phase.MsgIn → link_byte l ≡ Some b → WaitsForAck (sent_if (Some b) l)
-waits-by Free b e f = cc
-waits-by (Greeted heard) b e f = cc
-waits-by (Commanded n taken) b e f = cc
-waits-by (Working c) b e f = waits-working c.shows c b refl e f
-waits-by (Straying s n) b e f = waits-stray s n b e f
+waits-by : (l : ConnectionState) (b : ℕ) → link_phase l ≡ Some phase.MsgIn → link_byte l ≡ Some b → WaitsForAck (sent_if (Some b) l)
+waits-by BusFree b e f = cc
+waits-by (Selected heard) b e f = cc
+waits-by (TakingCommand n taken) b e f = cc
+waits-by (TaskConnected c) b e f = waits-working c.shows c b refl e f
+waits-by (RogueConnected s n) b e f = waits-rogue s n b e f
 
-pub waits : (l : Link) (b : ℕ) → link_phase l ≡ Some phase.MsgIn → link_byte l ≡ Some b → WaitsForAck (sent_if (link_byte l) l)
+pub waits : (l : ConnectionState) (b : ℕ) → link_phase l ≡ Some phase.MsgIn → link_byte l ≡ Some b → WaitsForAck (sent_if (link_byte l) l)
 waits l b e f = subst (λ o. WaitsForAck (sent_if o l)) (sym f) (waits-by l b e f)
 
 -- the other way round
-shows-choosing : (s : Showing) → s ≡ Choosing → phase_of s ≡ None
+shows-choosing : (s : TaskPhase) → s ≡ ToChoose → phase_of s ≡ None
 shows-choosing s e = ap phase_of e
 
-pub choosing-free : (l : Link) → IsToChoose l → is_free l ≡ false
-choosing-free Free i = absurd i
-choosing-free (Greeted heard) i = absurd i
-choosing-free (Commanded n taken) i = absurd i
-choosing-free (Working c) i = refl
-choosing-free (Straying s n) i = refl
+pub choosing-free : (l : ConnectionState) → IsToChoose l → is_free l ≡ false
+choosing-free BusFree i = absurd i
+choosing-free (Selected heard) i = absurd i
+choosing-free (TakingCommand n taken) i = absurd i
+choosing-free (TaskConnected c) i = refl
+choosing-free (RogueConnected s n) i = refl
 
-pub choosing-none : (l : Link) → IsToChoose l → link_phase l ≡ None
-choosing-none Free i = absurd i
-choosing-none (Greeted heard) i = absurd i
-choosing-none (Commanded n taken) i = absurd i
-choosing-none (Working c) i = ap phase_of i
-choosing-none (Straying s n) i = ap stray_phase i
+pub choosing-none : (l : ConnectionState) → IsToChoose l → link_phase l ≡ None
+choosing-none BusFree i = absurd i
+choosing-none (Selected heard) i = absurd i
+choosing-none (TakingCommand n taken) i = absurd i
+choosing-none (TaskConnected c) i = ap phase_of i
+choosing-none (RogueConnected s n) i = ap rogue_phase i
 
 -- what holds goes on to hold where the rigs stay
 pub held-same : (us vs : List (Option LogicalUnit)) (r : RigUnit) → IsHeld us r → rigs vs ≡ rigs us → IsHeld vs r
@@ -170,7 +170,7 @@ some-byte : (o : Option ℕ) → is_some o ≡ true → (b : ℕ) × (o ≡ Some
 some-byte None e = absurd cc
 some-byte (Some b) e = (b, refl)
 
-pub waits-after : (l : Link) (byte : Option ℕ) → byte ≡ link_byte l → is_some byte ≡ true → link_phase l ≡ Some phase.MsgIn → WaitsForAck (sent_if (link_byte l) l)
+pub waits-after : (l : ConnectionState) (byte : Option ℕ) → byte ≡ link_byte l → is_some byte ≡ true → link_phase l ≡ Some phase.MsgIn → WaitsForAck (sent_if (link_byte l) l)
 waits-after l byte e s p =
     let b : (x : ℕ) × (byte ≡ Some x) = some-byte byte s in
     waits l b.0 p (sym e ∙ b.1)

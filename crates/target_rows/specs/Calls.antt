@@ -3,7 +3,7 @@ use Rattle.std.specs.Prelude.{◌≡◌, ℕ, Bool, true, false, Option, Some, N
 use Rattle.scsi_words.specs.declared.phases.kinds.Phase.{Phase}
 use Rattle.scsi_words.specs.declared.phases.kinds.Phase.TheVariants.{MsgIn}
 use Rattle.target_law.specs.declared.moves.Move.{Move}
-use Rattle.target_law.specs.Target.{Link, linked}
+use Rattle.target_law.specs.Target.{ConnectionState, linked}
 use Rattle.target_law.specs.Calls.{link_phase, link_byte, sent_if, target_acted}
 use Rattle.target_law.specs.Lawful.{Named}
 use Rattle.target_law.specs.Devices.{DeviceState, where_room}
@@ -21,7 +21,7 @@ abbrev pub byte_where : Bool → Option ℕ → Option ℕ
 byte_where true byte = byte
 byte_where false byte = None
 
-abbrev pub message_byte : Link → Option ℕ
+abbrev pub message_byte : ConnectionState → Option ℕ
 message_byte l = byte_where (is_message_in (link_phase l)) (link_byte l)
 
 -- after the move that the word names

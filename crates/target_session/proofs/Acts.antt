@@ -7,7 +7,7 @@ use Rattle.plain_lun.specs.Performing.{Answered, perform, wants_now}
 use Rattle.plain_lun.proofs.Laws.{sends}
 use Rattle.target_law.specs.declared.moves.Move.{Move}
 use Rattle.target_law.specs.declared.moves.Move.TheVariants as move
-use Rattle.target_law.specs.declared.showing.Showing.TheVariants.{Sending}
+use Rattle.target_law.specs.declared.task_phase.TaskPhase.TheVariants.{DataIn}
 use Rattle.target_law.specs.Session.{Task, Session, remaining, Can, CanGo, acted, gone, phased, looked, looked_by, moves}
 use Rattle.target_law.specs.Sound.{IsSound, IsWaiting}
 use Rattle.unit_task.proofs.Keeping.{marked-sound, looked-sound}
@@ -15,7 +15,7 @@ use Rattle.unit_task.proofs.Ends.{others-looked}
 
 -- a data phase of a command that sends
 looked-by-sound : (b : Bool) (s : Session) (n : ℕ) → (need_of s.task.cdb).direction ≡ In → s.task.kept ≡ None → 0 < remaining s → IsSound s → CanGo s n
-    → IsSound (moves (looked_by b s (perform s.unit s.task.cdb [])) (Sending n))
+    → IsSound (moves (looked_by b s (perform s.unit s.task.cdb [])) (DataIn n))
 looked-by-sound b s n d k r i g =
     let answer = (perform s.unit s.task.cdb []).answer in
     let l : length answer.bytes ≡ (wants_now s.unit s.task.cdb).bytes = sends s.unit s.task.cdb [] d in
@@ -23,7 +23,7 @@ looked-by-sound b s n d k r i g =
     let some = g.some r in
     let most = g.most in
     let all = g.all in
-    elim b as (λ b. IsSound (moves (looked_by b s (perform s.unit s.task.cdb [])) (Sending n))) [
+    elim b as (λ b. IsSound (moves (looked_by b s (perform s.unit s.task.cdb [])) (DataIn n))) [
       | true ↦ record {
         task = marked-sound s.unit (record s.task { kept = Some answer }) s.task.budget false true (looked-sound s.unit s.unit s.task [] d k i.task);
         worth = record { some = some; kept = (answer, refl); most = omega arith; all = λ z. let e = all z in omega arith };
@@ -34,7 +34,7 @@ looked-by-sound b s n d k r i g =
       }
     ]
 
-looked-worth : (o : Option Answered) (s : Session) (n : ℕ) → (need_of s.task.cdb).direction ≡ In → s.task.kept ≡ o → 0 < remaining s → IsSound s → CanGo s n → IsSound (moves (looked o s) (Sending n))
+looked-worth : (o : Option Answered) (s : Session) (n : ℕ) → (need_of s.task.cdb).direction ≡ In → s.task.kept ≡ o → 0 < remaining s → IsSound s → CanGo s n → IsSound (moves (looked o s) (DataIn n))
 looked-worth (Some a) s n d k r i g = record {
   task = marked-sound s.unit s.task s.task.budget false true i.task;
   worth = record { some = g.some r; kept = (a, k); most = g.most; all = g.all };

@@ -2,7 +2,7 @@
 use Rattle.std.proofs.Common.{◌≡◌, Bool, true, false, [], ◌∷◌, ◌++◌, refl, Option, Some, None}
 use Rattle.scsi_words.specs.declared.statuses.kinds.Status.{Status}
 use Rattle.plain_lun.specs.Performing.{Answered, Performed, perform}
-use Rattle.target_law.specs.declared.showing.Verdict.TheVariants.{Answered as HasAnswered}
+use Rattle.target_law.specs.declared.task_phase.Completion.TheVariants.{Answered as HasAnswered}
 use Rattle.target_law.specs.Session.{Session, ended, closed_by, closed}
 use Rattle.unit_task.specs.Ending.{performed_once, unit_ended_by, unit_ended}
 use Rattle.target_session.specs.Sessions.{end_entry}

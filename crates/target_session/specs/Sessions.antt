@@ -3,10 +3,10 @@ use Rattle.std.specs.Prelude.{ℕ, Bool, true, false, Option, Some, None}
 use Rattle.unit_core.specs.declared.Core.{Core}
 use Rattle.unit_law.specs.declared.entry.LogEntry.{LogEntry}
 use Rattle.unit_law.specs.declared.entry.LogEntry.TheVariants.{End, Sense}
-use Rattle.target_law.specs.declared.showing.Note.{Note}
-use Rattle.target_law.specs.declared.showing.Note.TheVariants.{Complete}
-use Rattle.target_law.specs.declared.showing.Showing.{Showing}
-use Rattle.target_law.specs.declared.showing.Showing.TheVariants.{Saying}
+use Rattle.target_law.specs.declared.task_phase.TargetMessage.{TargetMessage}
+use Rattle.target_law.specs.declared.task_phase.TargetMessage.TheVariants.{CommandComplete}
+use Rattle.target_law.specs.declared.task_phase.TaskPhase.{TaskPhase}
+use Rattle.target_law.specs.declared.task_phase.TaskPhase.TheVariants.{MessageIn}
 use Rattle.target_law.specs.Session.{Session, closed}
 use Rattle.target_law.specs.Bytes.{Connection, sent_by, heard_by}
 
@@ -23,8 +23,8 @@ sent_where (Some b) c = sent_by c.shows c
 sent_where None c = c
 
 -- ACK is released after the message that is shown
-abbrev pub heard_on : Showing → Connection → Connection
-heard_on (Saying n sent) c = heard_by n c
+abbrev pub heard_on : TaskPhase → Connection → Connection
+heard_on (MessageIn n sent) c = heard_by n c
 heard_on _ c = c
 
 -- the entry of an answered task
@@ -33,10 +33,10 @@ end_entry true ticket = Sense ticket
 end_entry false ticket = End ticket
 
 -- ACK is released after COMMAND COMPLETE
-abbrev pub closed_note : Note → Session → Session
-closed_note (Complete v) s = closed v s
-closed_note _ s = s
+abbrev pub closed_message : TargetMessage → Session → Session
+closed_message (CommandComplete v) s = closed v s
+closed_message _ s = s
 
-abbrev pub closed_on : Showing → Session → Session
-closed_on (Saying n sent) s = closed_note n s
+abbrev pub closed_on : TaskPhase → Session → Session
+closed_on (MessageIn n sent) s = closed_message n s
 closed_on _ s = s

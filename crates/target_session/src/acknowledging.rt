@@ -7,7 +7,7 @@ ghost use Rattle.target_law.specs.Sound.{Ends, IsSound, IsSoundTask, IsWaiting};
 ghost use Rattle.target_session.specs.Sessions.{session_of, core_after, heard_on, closed_on, end_entry};
 
 use crate::connection::Connection;
-use target_law::{NamePart, Note, Showing, Verdict};
+use target_law::{Completion, ReselectByte, TargetMessage, TaskPhase};
 use unit_core::Core;
 use unit_law::LogEntry;
 
@@ -24,26 +24,30 @@ impl Connection {
     fn hear(&mut self)
         ensures { self.new ≡ heard_on self.old.shows self.old }
     {
-        let Showing::Saying { note, .. } = self.shows else {
+        let TaskPhase::MessageIn { message, .. } = self.shows else {
             return;
         };
-        self.shows = match note {
-            Note::Name(NamePart::Lun) => says(Note::Name(NamePart::Queue)),
-            Note::Name(NamePart::Queue) => says(Note::Name(NamePart::Tag)),
-            Note::Name(NamePart::Tag) => Showing::Choosing,
-            Note::SaveThenLeave => {
+        self.shows = match message {
+            TargetMessage::Reselection(ReselectByte::Identify) => says(TargetMessage::Reselection(
+                ReselectByte::SimpleQueueTag,
+            )),
+            TargetMessage::Reselection(ReselectByte::SimpleQueueTag) => says(
+                TargetMessage::Reselection(ReselectByte::Tag),
+            ),
+            TargetMessage::Reselection(ReselectByte::Tag) => TaskPhase::ToChoose,
+            TargetMessage::SaveThenDisconnect => {
                 self.task.save();
-                says(Note::LeaveNow)
+                says(TargetMessage::Disconnect)
             }
-            Note::SaveNow => {
+            TargetMessage::SaveDataPointer => {
                 self.task.save();
-                Showing::Choosing
+                TaskPhase::ToChoose
             }
-            Note::RestoreNow => {
+            TargetMessage::RestorePointers => {
                 self.task.restore();
-                Showing::Choosing
+                TaskPhase::ToChoose
             }
-            Note::Complete(_) | Note::LeaveNow => return,
+            TargetMessage::CommandComplete(_) | TargetMessage::Disconnect => return,
         };
     }
 
@@ -57,27 +61,27 @@ impl Connection {
         ensures core { core.new ≡ core_after core.old (closed_on self.now.shows (session_of core.old self.now)) }
         ensures others { (k : Task) → IsWaiting core.old.lun k → IsWaiting core.new.lun k }
     {
-        if let Showing::Saying {
-            note: Note::Complete(verdict),
+        if let TaskPhase::MessageIn {
+            message: TargetMessage::CommandComplete(completion),
             ..
         } = self.shows
         {
-            self.close_by(core, verdict);
+            self.close_by(core, completion);
         }
     }
 
     #[tactic(auto, unfolding(target_law::specs::Session::closed))]
-    fn close_by(&self, core: &mut Core, verdict: Verdict)
+    fn close_by(&self, core: &mut Core, completion: Completion)
         requires sound { IsSoundTask core.old.lun self.now.task }
-        requires ends { Ends verdict (session_of core.old self.now) }
+        requires ends { Ends completion (session_of core.old self.now) }
         requires room { length core.old.log.entries < core.old.log.room }
-        ensures core { core.new ≡ core_after core.old (closed verdict (session_of core.old self.now)) }
+        ensures core { core.new ≡ core_after core.old (closed completion (session_of core.old self.now)) }
         ensures others { (k : Task) → IsWaiting core.old.lun k → IsWaiting core.new.lun k }
     {
         let ticket = self.task.ticket();
-        match verdict {
-            Verdict::Refused(status) => core.log.push(LogEntry::Refuse(ticket, status)),
-            Verdict::Answered(_) => {
+        match completion {
+            Completion::Refused(status) => core.log.push(LogEntry::Refuse(ticket, status)),
+            Completion::Answered(_) => {
                 self.task.end(&mut core.lun);
                 core.log.push(self.end_entry());
             }
@@ -96,8 +100,11 @@ impl Connection {
 }
 
 /// It shows a message byte that isn't sent yet.
-fn says(note: Note) -> Showing
-    ensures { result ≡ says note }
+fn says(message: TargetMessage) -> TaskPhase
+    ensures { result ≡ says message }
 {
-    Showing::Saying { note, sent: false }
+    TaskPhase::MessageIn {
+        message,
+        sent: false,
+    }
 }

@@ -4,7 +4,8 @@ ghost use Rattle.std.specs.Prelude.{◌≡◌, ℕ, ◌-◌, ◌<◌, false, len
 ghost use Rattle.scsi_words.specs.declared.phases.kinds.Direction.TheVariants.{In};
 ghost use Rattle.cdb_codec.specs.Forms.{need_of};
 ghost use Rattle.target_law.specs.declared.moves.Move.TheVariants.{Go};
-ghost use Rattle.target_law.specs.declared.showing.Showing.TheVariants.{Saying, Telling};
+ghost use Rattle.target_law.specs.declared.task_phase.TaskPhase.TheVariants as task_phase;
+ghost use Rattle.target_law.specs.declared.task_phase.TaskPhase.TheVariants.{MessageIn};
 ghost use Rattle.target_law.specs.Session.{Task, Can, acted, looked};
 ghost use Rattle.target_law.specs.Sound.{IsSound, IsSoundTask, IsWaiting};
 ghost use Rattle.target_law.specs.Target.{connection_after};
@@ -12,7 +13,7 @@ ghost use Rattle.target_session.specs.Sessions.{session_of, core_after};
 
 use crate::connection::Connection;
 use scsi_words::{Direction, Status};
-use target_law::{Move, Note, Showing, Verdict};
+use target_law::{Completion, Move, TargetMessage, TaskPhase};
 use unit_core::Core;
 use unit_law::LogEntry;
 
@@ -44,37 +45,40 @@ impl Connection {
     {
         match m {
             Move::Go { bytes } => self.go(core, bytes),
-            Move::Busy => self.tell(Verdict::Refused(Status::Busy)),
-            Move::QueueFull => self.tell(Verdict::Refused(Status::QueueFull)),
-            Move::Leave => self.spend(Note::LeaveNow),
-            Move::SaveLeave => self.spend(Note::SaveThenLeave),
-            Move::Save => self.spend(Note::SaveNow),
-            Move::Restore => self.spend(Note::RestoreNow),
+            Move::Busy => self.tell(Completion::Refused(Status::Busy)),
+            Move::QueueFull => self.tell(Completion::Refused(Status::QueueFull)),
+            Move::Leave => self.spend(TargetMessage::Disconnect),
+            Move::SaveLeave => self.spend(TargetMessage::SaveThenDisconnect),
+            Move::Save => self.spend(TargetMessage::SaveDataPointer),
+            Move::Restore => self.spend(TargetMessage::RestorePointers),
             Move::Rogue { .. } => {}
         }
     }
 
     /// A move of the four that spend: it says a message.
-    fn spend(&mut self, note: Note)
+    fn spend(&mut self, message: TargetMessage)
         requires { 0 < self.old.task.budget }
         ensures { self.new ≡ record self.old {
           task = record self.old.task { budget = self.old.task.budget - 1; fresh = false; just_moved = false };
-          shows = Saying note false;
+          shows = MessageIn message false;
         } }
     {
         self.task.spend();
-        self.shows = Showing::Saying { note, sent: false };
+        self.shows = TaskPhase::MessageIn {
+            message,
+            sent: false,
+        };
     }
 
     /// It tells a status.
-    fn tell(&mut self, verdict: Verdict)
+    fn tell(&mut self, completion: Completion)
         ensures { self.new ≡ record self.old {
           task = record self.old.task { fresh = false; just_moved = false };
-          shows = Telling verdict;
+          shows = task_phase.Status completion;
         } }
     {
         self.task.turn();
-        self.shows = Showing::Telling(verdict);
+        self.shows = TaskPhase::Status(completion);
     }
 
     /// A data phase, or the status where nothing is left.
@@ -88,18 +92,18 @@ impl Connection {
     {
         if self.task.remaining(&core.lun) == 0 {
             let status = self.task.status(&core.lun);
-            self.tell(Verdict::Answered(status));
+            self.tell(Completion::Answered(status));
             return;
         }
         match self.task.direction() {
             Direction::In => {
                 self.look(core);
                 self.task.move_data();
-                self.shows = Showing::Sending(bytes);
+                self.shows = TaskPhase::DataIn(bytes);
             }
             Direction::Out => {
                 self.task.move_data();
-                self.shows = Showing::Receiving(bytes);
+                self.shows = TaskPhase::DataOut(bytes);
             }
             Direction::None => {}
         }

@@ -2,7 +2,7 @@
 
 ghost use Rattle.std.specs.Prelude.{◌≡◌, ◌<◌, ℕ, Some};
 ghost use Rattle.unit_core.specs.declared.Core.{Core};
-ghost use Rattle.target_law.specs.Bytes.{byte_by, hears, note_byte, sent_by, status_told, takes_by, took_by};
+ghost use Rattle.target_law.specs.Bytes.{byte_by, hears, message_in_byte, sent_by, status_told, takes_by, took_by};
 ghost use Rattle.scsi_words.specs.Statuses.{status_code};
 ghost use Rattle.target_law.specs.Sound.{IsSound};
 ghost use Rattle.target_session.specs.Sessions.{session_of, sent_where};
@@ -10,7 +10,7 @@ ghost use Rattle.target_session.specs.Sessions.{session_of, sent_where};
 use crate::connection::Connection;
 use arrayvec::ArrayVec;
 use scsi_words::{Message, message_byte};
-use target_law::{NamePart, Note, Showing, Verdict};
+use target_law::{Completion, ReselectByte, TargetMessage, TaskPhase};
 
 impl Connection {
     /// The byte that it has for the initiator, if it has one.
@@ -18,11 +18,15 @@ impl Connection {
         ensures { result ≡ byte_by self.now.shows self.now.task self.now.lun }
     {
         match self.shows {
-            Showing::Choosing | Showing::Hearing | Showing::Receiving(_) => None,
-            Showing::Sending(_) => self.task.byte(),
-            Showing::Telling(verdict) => Some(status_byte(verdict)),
-            Showing::Saying { sent: true, .. } => None,
-            Showing::Saying { note, .. } => Some(note_byte(note, self.lun, self.task.tag())),
+            TaskPhase::ToChoose | TaskPhase::MessageOut | TaskPhase::DataOut(_) => None,
+            TaskPhase::DataIn(_) => self.task.byte(),
+            TaskPhase::Status(completion) => Some(status_byte(completion)),
+            TaskPhase::MessageIn { sent: true, .. } => None,
+            TaskPhase::MessageIn { message, .. } => Some(message_in_byte(
+                message,
+                self.lun,
+                self.task.tag(),
+            )),
         }
     }
 
@@ -54,20 +58,23 @@ impl Connection {
         ensures { self.new ≡ sent_by self.old.shows self.old }
     {
         match self.shows {
-            Showing::Choosing | Showing::Hearing | Showing::Receiving(_) => {}
-            Showing::Sending(left) => {
+            TaskPhase::ToChoose | TaskPhase::MessageOut | TaskPhase::DataOut(_) => {}
+            TaskPhase::DataIn(left) => {
                 self.task.advance();
                 self.shows = if left > 1 {
-                    Showing::Sending(left - 1)
+                    TaskPhase::DataIn(left - 1)
                 } else {
-                    Showing::Choosing
+                    TaskPhase::ToChoose
                 };
             }
-            Showing::Telling(verdict) => self.shows = Showing::Saying {
-                note: Note::Complete(verdict),
+            TaskPhase::Status(completion) => self.shows = TaskPhase::MessageIn {
+                message: TargetMessage::CommandComplete(completion),
                 sent: false,
             },
-            Showing::Saying { note, .. } => self.shows = Showing::Saying { note, sent: true },
+            TaskPhase::MessageIn { message, .. } => self.shows = TaskPhase::MessageIn {
+                message,
+                sent: true,
+            },
         }
     }
 
@@ -77,16 +84,16 @@ impl Connection {
         ensures connection { self.new ≡ took_by self.old.shows self.old b }
     {
         match self.shows {
-            Showing::Hearing => {
+            TaskPhase::MessageOut => {
                 hear_byte(&mut self.heard, b);
                 true
             }
-            Showing::Receiving(left) => {
+            TaskPhase::DataOut(left) => {
                 self.task.receive(b);
                 self.shows = if left > 1 {
-                    Showing::Receiving(left - 1)
+                    TaskPhase::DataOut(left - 1)
                 } else {
-                    Showing::Choosing
+                    TaskPhase::ToChoose
                 };
                 true
             }
@@ -106,29 +113,33 @@ fn hear_byte(heard: &mut ArrayVec<u8, 4>, b: u8)
 }
 
 /// The byte of the status that is told.
-fn status_byte(verdict: Verdict) -> u8
-    ensures { result ≡ status_code (status_told verdict) }
+fn status_byte(completion: Completion) -> u8
+    ensures { result ≡ status_code (status_told completion) }
 {
-    match verdict {
-        Verdict::Answered(status) | Verdict::Refused(status) => status.byte(),
+    match completion {
+        Completion::Answered(status) | Completion::Refused(status) => status.byte(),
     }
 }
 
 /// The byte of a message.
-fn note_byte(note: Note, lun: u8, tag: u8) -> u8
+fn message_in_byte(message: TargetMessage, lun: u8, tag: u8) -> u8
     requires { lun < 8 }
-    ensures { result ≡ note_byte note lun tag }
+    ensures { result ≡ message_in_byte message lun tag }
 {
-    match note {
-        Note::Name(NamePart::Lun) => message_byte(&Message::Identify {
+    match message {
+        TargetMessage::Reselection(ReselectByte::Identify) => message_byte(&Message::Identify {
             may_leave: false,
             lun,
         }),
-        Note::Name(NamePart::Queue) => message_byte(&Message::SimpleTag),
-        Note::Name(NamePart::Tag) => tag,
-        Note::Complete(_) => message_byte(&Message::Complete),
-        Note::SaveThenLeave | Note::SaveNow => message_byte(&Message::Save),
-        Note::RestoreNow => message_byte(&Message::Restore),
-        Note::LeaveNow => message_byte(&Message::Leave),
+        TargetMessage::Reselection(ReselectByte::SimpleQueueTag) => message_byte(
+            &Message::SimpleTag,
+        ),
+        TargetMessage::Reselection(ReselectByte::Tag) => tag,
+        TargetMessage::CommandComplete(_) => message_byte(&Message::Complete),
+        TargetMessage::SaveThenDisconnect | TargetMessage::SaveDataPointer => message_byte(
+            &Message::Save,
+        ),
+        TargetMessage::RestorePointers => message_byte(&Message::Restore),
+        TargetMessage::Disconnect => message_byte(&Message::Leave),
     }
 }

@@ -2,7 +2,7 @@
 
 ghost use Rattle.std.specs.Prelude.{◌≡◌, ◌+◌, ◌%◌, ◌<◌, ◌≤◌, ◌⊎◌, true, length, slice_get, Some, if◌then◌else◌};
 ghost use Rattle.unit_law.specs.Log.{tally};
-ghost use Rattle.target_law.specs.declared.showing.Showing.TheVariants.{Choosing};
+ghost use Rattle.target_law.specs.declared.task_phase.TaskPhase.TheVariants.{ToChoose};
 ghost use Rattle.target_law.specs.Session.{Can, acted, remaining};
 ghost use Rattle.target_law.specs.Choice.{Names, offers, can_go, can_refuse, can_spend, go_bytes};
 ghost use Rattle.target_law.specs.Sound.{IsSound};
@@ -23,7 +23,7 @@ impl Connection {
     /// Condition: it is to choose.
     pub fn choose(&self, core: &Core, limit: u8, word: u32) -> Move
         requires sound { IsSound (session_of core.now self.now) }
-        requires choosing { self.now.shows ≡ Choosing }
+        requires choosing { self.now.shows ≡ ToChoose }
         ensures named { Names (session_of core.now self.now) limit
             (tally self.now.task.ticket core.now.log.entries).refusals word result }
         ensures lawful { Can result (session_of core.now self.now) limit

@@ -2,9 +2,9 @@
 
 ghost use Rattle.std.specs.Prelude.{◌≡◌, ◌<◌, [], true, false};
 ghost use Rattle.unit_core.specs.declared.Core.{Core};
-ghost use Rattle.target_law.specs.declared.showing.NamePart.TheVariants as part;
-ghost use Rattle.target_law.specs.declared.showing.Note.TheVariants.{Name};
-ghost use Rattle.target_law.specs.declared.showing.Showing.TheVariants.{Choosing, Hearing, Saying};
+ghost use Rattle.target_law.specs.declared.task_phase.ReselectByte.TheVariants as part;
+ghost use Rattle.target_law.specs.declared.task_phase.TargetMessage.TheVariants.{Reselection};
+ghost use Rattle.target_law.specs.declared.task_phase.TaskPhase.TheVariants.{ToChoose, MessageOut, MessageIn};
 ghost use Rattle.target_law.specs.Bytes.{phase_of};
 ghost use Rattle.target_law.specs.Sound.{IsSound, IsWaiting};
 ghost use Rattle.target_session.specs.Sessions.{session_of};
@@ -12,7 +12,7 @@ ghost use Rattle.target_session.specs.Sessions.{session_of};
 use arrayvec::ArrayVec;
 use scsi_words::Phase;
 use std::marker::Model;
-use target_law::{NamePart, Note, Showing};
+use target_law::{ReselectByte, TargetMessage, TaskPhase};
 use unit_task::Task;
 
 /// A connected task of the unit with this LUN, and what it shows.
@@ -22,7 +22,7 @@ pub struct Connection {
     reselected: bool,
     pub(crate) heard: ArrayVec<u8, 4>,
     pub(crate) task: Task,
-    pub(crate) shows: Showing,
+    pub(crate) shows: TaskPhase,
 }
 
 impl Model for Connection {
@@ -50,7 +50,7 @@ impl Connection {
     pub fn begin(lun: u8, task: Task) -> Connection
         requires { lun < 8 }
         ensures connection { result ≡
-            record { lun = lun; reselected = false; heard = []; task = task; shows = Choosing } }
+            record { lun = lun; reselected = false; heard = []; task = task; shows = ToChoose } }
         ensures sound { (core : Core) → IsWaiting core.lun task → IsSound (session_of core result) }
     {
         Connection {
@@ -58,7 +58,7 @@ impl Connection {
             reselected: false,
             heard: ArrayVec::new(),
             task,
-            shows: Showing::Choosing,
+            shows: TaskPhase::ToChoose,
         }
     }
 
@@ -68,7 +68,7 @@ impl Connection {
     pub fn reselect(lun: u8, task: Task) -> Connection
         requires { lun < 8 }
         ensures connection { result ≡
-            record { lun = lun; reselected = true; heard = []; task = task; shows = Saying (Name part.Lun) false } }
+            record { lun = lun; reselected = true; heard = []; task = task; shows = MessageIn (Reselection part.Identify) false } }
         ensures sound { (core : Core) → IsWaiting core.lun task → IsSound (session_of core result) }
     {
         Connection {
@@ -76,8 +76,8 @@ impl Connection {
             reselected: true,
             heard: ArrayVec::new(),
             task,
-            shows: Showing::Saying {
-                note: Note::Name(NamePart::Lun),
+            shows: TaskPhase::MessageIn {
+                message: TargetMessage::Reselection(ReselectByte::Identify),
                 sent: false,
             },
         }
@@ -105,7 +105,7 @@ impl Connection {
     }
 
     /// What it shows.
-    pub fn shows(&self) -> Showing
+    pub fn shows(&self) -> TaskPhase
         ensures { result ≡ self.now.shows }
     {
         self.shows
@@ -116,12 +116,12 @@ impl Connection {
         ensures { result ≡ phase_of self.now.shows }
     {
         match self.shows {
-            Showing::Choosing => None,
-            Showing::Hearing => Some(Phase::MsgOut),
-            Showing::Sending(_) => Some(Phase::DataIn),
-            Showing::Receiving(_) => Some(Phase::DataOut),
-            Showing::Telling(_) => Some(Phase::Status),
-            Showing::Saying { .. } => Some(Phase::MsgIn),
+            TaskPhase::ToChoose => None,
+            TaskPhase::MessageOut => Some(Phase::MsgOut),
+            TaskPhase::DataIn(_) => Some(Phase::DataIn),
+            TaskPhase::DataOut(_) => Some(Phase::DataOut),
+            TaskPhase::Status(_) => Some(Phase::Status),
+            TaskPhase::MessageIn { .. } => Some(Phase::MsgIn),
         }
     }
 
@@ -148,10 +148,10 @@ impl Connection {
 
     /// ATN is asserted while it is to choose: it hears a message.
     pub fn ask_message(&mut self)
-        ensures connection { self.new ≡ record self.old { heard = []; shows = Hearing } }
+        ensures connection { self.new ≡ record self.old { heard = []; shows = MessageOut } }
         ensures sound { (core : Core) → IsSound (session_of core self.old) → IsSound (session_of core self.new) }
     {
         self.heard = ArrayVec::new();
-        self.shows = Showing::Hearing;
+        self.shows = TaskPhase::MessageOut;
     }
 }

@@ -6,7 +6,7 @@ use Rattle.std.proofs.lemmas.Grind.{common_steps}
 use Rattle.std.proofs.lemmas.List.{take-append-le, drop-append-le, drop-drop, take-append-drop}
 use Rattle.std.proofs.Math.Seq.{drop-append-add}
 use Rattle.cdb_codec.specs.declared.commands.Cdb.TheVariants.{Write}
-use Rattle.plain_lun.specs.Unit.{Plain, blocks_of}
+use Rattle.plain_lun.specs.Unit.{UnitState, blocks_of}
 use Rattle.plain_lun.specs.Performing.{blocks_at, holds, stored}
 use Rattle.plain_lun.specs.Losing.{dropped, stored_within, whole_blocks}
 use Rattle.unit_law.specs.Laws.{KeepsBlocks}
@@ -55,14 +55,14 @@ whole-part bytes i m le =
     let n : length (take k bytes) ≡ k = whole-size bytes in
     sym (in-front (take k bytes) (drop k bytes) i m (omega arith)) ∙ ap (λ (xs : List ℕ). take m (drop i xs)) (take-append-drop k bytes)
 
-dropped-disk : (u : Plain) (lba blocks : ℕ) (six : Bool) (bytes : List ℕ) → lba + length bytes / 512 ≤ blocks_of u
+dropped-disk : (u : UnitState) (lba blocks : ℕ) (six : Bool) (bytes : List ℕ) → lba + length bytes / 512 ≤ blocks_of u
     → (dropped u (Write lba blocks six) bytes).disk ≡ stored u.disk (512 * lba) (whole_blocks bytes)
 unfolding dropped holds
 dropped-disk u lba blocks six bytes h =
     let e : nat_le (lba + length bytes / 512) (blocks_of u) ≡ true = grind (arith, nat_tests) in
     ap (λ b. (stored_within b u lba (whole_blocks bytes)).disk) e
 
-pub keeps-blocks : (u : Plain) (lba blocks : ℕ) (six : Bool) (bytes : List ℕ) (n : ℕ) → lba + length bytes / 512 ≤ blocks_of u → n < blocks_of u
+pub keeps-blocks : (u : UnitState) (lba blocks : ℕ) (six : Bool) (bytes : List ℕ) (n : ℕ) → lba + length bytes / 512 ≤ blocks_of u → n < blocks_of u
     → KeepsBlocks u (dropped u (Write lba blocks six) bytes) lba bytes n
 unfolding blocks_at
 keeps-blocks u lba blocks six bytes n h there =

@@ -3,12 +3,12 @@ use Rattle.std.proofs.Common.{◌≡◌, ◌≢◌, ℕ, ◌+◌, Bool, true, fa
 use Rattle.std.proofs.lemmas.Bool.Decides.{nat_tests}
 use Rattle.std.proofs.lemmas.List.Sums.{fold-append}
 use Rattle.scsi_words.specs.declared.statuses.kinds.Status.{Status}
-use Rattle.plain_lun.specs.Unit.{Plain}
+use Rattle.plain_lun.specs.Unit.{UnitState}
 use Rattle.plain_lun.specs.Performing.{Answered}
 use Rattle.unit_law.specs.declared.entry.LogEntry.{LogEntry}
 use Rattle.unit_law.specs.declared.entry.LogEntry.TheVariants.{Refuse, Look, End, Drop, Clear, Sense}
-use Rattle.unit_law.specs.Request.{PlainRequest}
-use Rattle.unit_law.specs.Log.{with_at, Ran, ended, entered, run_log, ran_none, Tally, noted, none_of, one_where_none, tally}
+use Rattle.unit_law.specs.Request.{RequestData}
+use Rattle.unit_law.specs.Log.{with_at, LogResult, ended, entered, run_log, log_result_none, Tally, noted, none_of, one_where_none, tally}
 
 pub eq-test : (x : ℕ) → nat_eq x x ≡ true
 eq-test x = grind (arith, nat_tests)
@@ -36,9 +36,9 @@ pub tally-push : (t : ℕ) (log : List LogEntry) (e : LogEntry) → tally t (log
 unfolding tally
 tally-push t log e = fold-append (noted t) none_of log (e ∷ [])
 
-pub run-push : (requests : ℕ → PlainRequest) (u : Plain) (log : List LogEntry) (e : LogEntry) → run_log requests u (log ++ e ∷ []) ≡ entered requests (run_log requests u log) e
+pub run-push : (requests : ℕ → RequestData) (u : UnitState) (log : List LogEntry) (e : LogEntry) → run_log requests u (log ++ e ∷ []) ≡ entered requests (run_log requests u log) e
 unfolding run_log
-run-push requests u log e = fold-append (entered requests) (ran_none u) log (e ∷ [])
+run-push requests u log e = fold-append (entered requests) (log_result_none u) log (e ∷ [])
 
 -- the entry is one of ticket t
 abbrev pub IsOf : ℕ → LogEntry → Type 0
@@ -58,15 +58,15 @@ noted-other x t k (Drop y high) i d = let n : y ≢ x = λ q. d (sym q ∙ i) in
 noted-other x t k Clear i d = absurd i
 noted-other x t k (Sense y) i d = let n : y ≢ x = λ q. d (sym q ∙ i) in rw (ne-test y x n) refl
 
-ended-answer : (requests : ℕ → PlainRequest) (r : Ran) (x t : ℕ) (o : Option Answered) → x ≢ t → (ended requests r t o).answers x ≡ r.answers x
+ended-answer : (requests : ℕ → RequestData) (r : LogResult) (x t : ℕ) (o : Option Answered) → x ≢ t → (ended requests r t o).answers x ≡ r.answers x
 ended-answer requests r x t None d = with_at-other _ t _ x d
 ended-answer requests r x t (Some a) d = refl
 
-ended-sense : (requests : ℕ → PlainRequest) (r : Ran) (x t : ℕ) (o : Option Answered) → (ended requests r t o).senses x ≡ r.senses x
+ended-sense : (requests : ℕ → RequestData) (r : LogResult) (x t : ℕ) (o : Option Answered) → (ended requests r t o).senses x ≡ r.senses x
 ended-sense requests r x t None = refl
 ended-sense requests r x t (Some a) = refl
 
-entered-answer : (requests : ℕ → PlainRequest) (r : Ran) (x t : ℕ) (e : LogEntry) → IsOf t e → x ≢ t → (entered requests r e).answers x ≡ r.answers x
+entered-answer : (requests : ℕ → RequestData) (r : LogResult) (x t : ℕ) (e : LogEntry) → IsOf t e → x ≢ t → (entered requests r e).answers x ≡ r.answers x
 entered-answer requests r x t (Refuse y s) i d = refl
 entered-answer requests r x t (Look y) i d = with_at-other _ y _ x (λ q. d (q ∙ i))
 entered-answer requests r x t (End y) i d = ended-answer requests r x y (r.answers y) (λ q. d (q ∙ i))
@@ -74,7 +74,7 @@ entered-answer requests r x t (Drop y high) i d = refl
 entered-answer requests r x t Clear i d = refl
 entered-answer requests r x t (Sense y) i d = refl
 
-entered-sense : (requests : ℕ → PlainRequest) (r : Ran) (x t : ℕ) (e : LogEntry) → IsOf t e → x ≢ t → (entered requests r e).senses x ≡ r.senses x
+entered-sense : (requests : ℕ → RequestData) (r : LogResult) (x t : ℕ) (e : LogEntry) → IsOf t e → x ≢ t → (entered requests r e).senses x ≡ r.senses x
 entered-sense requests r x t (Refuse y s) i d = refl
 entered-sense requests r x t (Look y) i d = refl
 entered-sense requests r x t (End y) i d = ended-sense requests r x y (r.answers y)
@@ -85,11 +85,11 @@ entered-sense requests r x t (Sense y) i d = with_at-other _ y _ x (λ q. d (q �
 pub tally-other : (x t : ℕ) (log : List LogEntry) (e : LogEntry) → IsOf t e → x ≢ t → tally x (log ++ e ∷ []) ≡ tally x log
 tally-other x t log e i d = tally-push x log e ∙ noted-other x t (tally x log) e i d
 
-pub answers-other : (requests : ℕ → PlainRequest) (u : Plain) (x t : ℕ) (log : List LogEntry) (e : LogEntry) → IsOf t e → x ≢ t
+pub answers-other : (requests : ℕ → RequestData) (u : UnitState) (x t : ℕ) (log : List LogEntry) (e : LogEntry) → IsOf t e → x ≢ t
     → (run_log requests u (log ++ e ∷ [])).answers x ≡ (run_log requests u log).answers x
 answers-other requests u x t log e i d = ap (λ r. r.answers x) (run-push requests u log e) ∙ entered-answer requests (run_log requests u log) x t e i d
 
-pub senses-other : (requests : ℕ → PlainRequest) (u : Plain) (x t : ℕ) (log : List LogEntry) (e : LogEntry) → IsOf t e → x ≢ t
+pub senses-other : (requests : ℕ → RequestData) (u : UnitState) (x t : ℕ) (log : List LogEntry) (e : LogEntry) → IsOf t e → x ≢ t
     → (run_log requests u (log ++ e ∷ [])).senses x ≡ (run_log requests u log).senses x
 senses-other requests u x t log e i d = ap (λ r. r.senses x) (run-push requests u log e) ∙ entered-sense requests (run_log requests u log) x t e i d
 

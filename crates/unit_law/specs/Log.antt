@@ -3,44 +3,44 @@
 use Rattle.std.specs.Prelude.{ℕ, zero, suc, ◌+◌, ◌==◌, if◌then◌else◌, Bool, List, take, fold, Option, Some, None, []}
 use Rattle.scsi_words.specs.declared.statuses.kinds.Status.{Status}
 use Rattle.cdb_codec.specs.declared.commands.Cdb.TheVariants.{RequestSense}
-use Rattle.plain_lun.specs.Unit.{Plain}
+use Rattle.plain_lun.specs.Unit.{UnitState}
 use Rattle.plain_lun.specs.Performing.{Answered, Performed, perform}
 use Rattle.plain_lun.specs.Losing.{dropped, cleared}
 use Rattle.unit_law.specs.declared.entry.LogEntry.{LogEntry}
 use Rattle.unit_law.specs.declared.entry.LogEntry.TheVariants.{Refuse, Look, End, Drop, Clear, Sense}
-use Rattle.unit_law.specs.Request.{PlainRequest, command, received_of}
+use Rattle.unit_law.specs.Request.{RequestData, command, received_of}
 
 -- f with the value v at k
 unfoldable pub with_at : {A : Type 0} → (ℕ → A) → ℕ → A → ℕ → A
 with_at f k v x = if x == k then v else f x
 
 -- what a log gives: the unit at last, for each ticket with Look or End its status and data, and for each with Sense its sense bytes
-pub record Ran : Type 0 where
-  pub unit : Plain
+pub record LogResult : Type 0 where
+  pub unit : UnitState
   pub answers : ℕ → Option Answered
   pub senses : ℕ → Option (List ℕ)
 
 -- a log that says nothing yet
-abbrev pub ran_none : Plain → Ran
-ran_none u = record { unit = u; answers = λ t. None; senses = λ t. None }
+abbrev pub log_result_none : UnitState → LogResult
+log_result_none u = record { unit = u; answers = λ t. None; senses = λ t. None }
 
 -- the ticket's command is performed, and its answer kept
-abbrev pub performed : (ℕ → PlainRequest) → Ran → ℕ → Performed → Ran
+abbrev pub performed : (ℕ → RequestData) → LogResult → ℕ → Performed → LogResult
 performed requests r t p = record { unit = p.unit; answers = with_at r.answers t (Some p.answer); senses = r.senses }
 
-abbrev pub performs : (ℕ → PlainRequest) → Ran → ℕ → Ran
+abbrev pub performs : (ℕ → RequestData) → LogResult → ℕ → LogResult
 performs requests r t = performed requests r t (perform r.unit (command (requests t)) (received_of (requests t)))
 
 -- an End takes what was kept at Look; any other command is performed then
-abbrev pub ended : (ℕ → PlainRequest) → Ran → ℕ → Option Answered → Ran
+abbrev pub ended : (ℕ → RequestData) → LogResult → ℕ → Option Answered → LogResult
 ended requests r t (Some kept) = r
 ended requests r t None = performs requests r t
 
 -- REQUEST SENSE of 18 bytes is performed, and gives the ticket its sense bytes
-abbrev pub sensed : Ran → ℕ → Performed → Ran
+abbrev pub sensed : LogResult → ℕ → Performed → LogResult
 sensed r t p = record { unit = p.unit; answers = r.answers; senses = with_at r.senses t (Some p.answer.bytes) }
 
-abbrev pub entered : (ℕ → PlainRequest) → Ran → LogEntry → Ran
+abbrev pub entered : (ℕ → RequestData) → LogResult → LogEntry → LogResult
 entered requests r (Refuse t s) = r
 entered requests r (Look t) = performs requests r t
 entered requests r (End t) = ended requests r t (r.answers t)
@@ -49,8 +49,8 @@ entered requests r Clear = record { unit = cleared r.unit; answers = r.answers; 
 entered requests r (Sense t) = sensed r t (perform r.unit (RequestSense 18) [])
 
 -- the unit at its opening, run through its log
-unfoldable pub run_log : (ℕ → PlainRequest) → Plain → List LogEntry → Ran
-run_log requests u log = fold (entered requests) (ran_none u) log
+unfoldable pub run_log : (ℕ → RequestData) → UnitState → List LogEntry → LogResult
+run_log requests u log = fold (entered requests) (log_result_none u) log
 
 -- the entries of one ticket: how many of each kind, the status of its last refusal, how far its drop went, and how many of its Sense
 -- entries come before an End; and all Clears
@@ -94,5 +94,5 @@ pub record View : Type 0 where
   pub answer : Option Answered
   pub sense : Option (List ℕ)
 
-abbrev pub view_of : (ℕ → PlainRequest) → Plain → List LogEntry → ℕ → View
+abbrev pub view_of : (ℕ → RequestData) → UnitState → List LogEntry → ℕ → View
 view_of requests u log t = record { tally = tally t log; answer = (run_log requests u log).answers t; sense = (run_log requests u log).senses t }

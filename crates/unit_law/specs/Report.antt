@@ -10,11 +10,11 @@ use Rattle.rig_types.specs.declared.report.Outcome.{Outcome}
 use Rattle.rig_types.specs.declared.report.Outcome.TheVariants.{Done, Cut, Reset, NoTarget, Broken}
 use Rattle.rig_types.specs.declared.report.Report.{Report}
 use Rattle.plain_lun.specs.Performing.{Answered}
-use Rattle.unit_law.specs.Request.{PlainRequest, command}
+use Rattle.unit_law.specs.Request.{RequestData, command}
 use Rattle.unit_law.specs.Log.{Tally, View}
 
 -- what the rig says of the ticket's unit
-pub record Setting : Type 0 where
+pub record UnitSetting : Type 0 where
   pub retries : ℕ
   pub autosense : Bool
   pub absent : Bool
@@ -24,12 +24,12 @@ pub record Setting : Type 0 where
 -- queued and before its report; the bus was reset between its End and its Free; how many of its entries were added before its Build or
 -- after its Free; and how many Clears of its unit's log were added neither by a bus reset nor by the connection of a device reset of
 -- its target that an earlier act started
-pub record Course : Type 0 where
+pub record TicketHistory : Type 0 where
   pub marked : Bool
   pub clears : ℕ
   pub bus_reset : Bool
   pub outside : ℕ
-  pub stray_clears : ℕ
+  pub uncaused_clears : ℕ
 
 -- the first h bytes of the data, then the rest of the submitted bytes
 unfoldable pub filled : List ℕ → ℕ → List ℕ → List ℕ
@@ -65,7 +65,7 @@ abbrev pub no_status : ℕ
 no_status = 0xFF
 
 -- Done by End: the unit answered
-pub record ByEnd (r : PlainRequest) (v : View) (q : Report) : Type 0 where
+pub record ByEnd (r : RequestData) (v : View) (q : Report) : Type 0 where
   pub one_end : v.tally.ends ≡ 1
   pub no_drop : v.tally.drops ≡ 0
   pub tries : q.tries ≡ v.tally.refusals + 1
@@ -74,7 +74,7 @@ pub record ByEnd (r : PlainRequest) (v : View) (q : Report) : Type 0 where
       × (q.bytes ≡ holding r.direction a.bytes (length a.bytes) r.bytes)
 
 -- Done by refusal: the unit answered BUSY or QUEUE FULL at every try
-pub record ByRefusal (retries : ℕ) (r : PlainRequest) (v : View) (q : Report) : Type 0 where
+pub record ByRefusal (retries : ℕ) (r : RequestData) (v : View) (q : Report) : Type 0 where
   pub no_look : v.tally.looks ≡ 0
   pub no_end : v.tally.ends ≡ 0
   pub no_drop : v.tally.drops ≡ 0
@@ -90,7 +90,7 @@ abbrev pub Lost : Tally → Type 0
 Lost k = (k.drops ≡ 1) ⊎ ((k.drops ≡ 0) × (k.looks ≡ 0) × (k.senses ≡ 0) × (k.high ≡ 0))
 
 -- Cut or Reset: the unit didn't answer
-pub record ByLoss (r : PlainRequest) (v : View) (q : Report) : Type 0 where
+pub record ByLoss (r : RequestData) (v : View) (q : Report) : Type 0 where
   pub no_end : v.tally.ends ≡ 0
   pub lost : Lost v.tally
   pub tries : q.tries ≡ v.tally.refusals + 1
@@ -99,7 +99,7 @@ pub record ByLoss (r : PlainRequest) (v : View) (q : Report) : Type 0 where
   pub bytes : q.bytes ≡ holding r.direction (data_of v.answer) v.tally.high r.bytes
 
 -- NoTarget: the unit is absent
-pub record ByAbsence (s : Setting) (r : PlainRequest) (v : View) (q : Report) : Type 0 where
+pub record ByAbsence (s : UnitSetting) (r : RequestData) (v : View) (q : Report) : Type 0 where
   pub absent : s.absent ≡ true
   pub no_refusal : v.tally.refusals ≡ 0
   pub no_look : v.tally.looks ≡ 0
@@ -112,7 +112,7 @@ pub record ByAbsence (s : Setting) (r : PlainRequest) (v : View) (q : Report) : 
   pub bytes : q.bytes ≡ r.bytes
 
 -- the cases by the outcome; a unit that isn't rogue breaks nothing
-abbrev pub By : Outcome → Setting → PlainRequest → View → Course → Report → Type 0
+abbrev pub By : Outcome → UnitSetting → RequestData → View → TicketHistory → Report → Type 0
 By Done s r v h q = ByEnd r v q ⊎ ByRefusal s.retries r v q
 By Cut s r v h q = ByLoss r v q × (h.marked ≡ true)
 By Reset s r v h q = ByLoss r v q × (0 < h.clears)
@@ -120,27 +120,27 @@ By NoTarget s r v h q = ByAbsence s r v q
 By Broken s r v h q = ⊥
 
 -- all but the sentences on the sense: the report is one of this ticket and of the unit that its request names
-pub record FitsLog (s : Setting) (t : ℕ) (r : PlainRequest) (v : View) (h : Course) (q : Report) : Type 0 where
+pub record FitsLog (s : UnitSetting) (t : ℕ) (r : RequestData) (v : View) (h : TicketHistory) (q : Report) : Type 0 where
   pub ticket : q.ticket ≡ t
   pub of_unit : q.unit ≡ r.unit
   pub by : By q.outcome s r v h q
   pub few_tries : q.tries ≤ s.retries + 1
   pub all_within : h.outside ≡ 0
-  pub all_caused : h.stray_clears ≡ 0
+  pub all_caused : h.uncaused_clears ≡ 0
 
 -- the ticket ended with CHECK CONDITION
 abbrev pub EndedInCheck : View → Type 0
 EndedInCheck v = (v.tally.ends ≡ 1) × ((a : Answered) × (v.answer ≡ Some a) × (a.status ≡ Check))
 
 -- the driver is to ask for the sense
-pub record AsksSense (s : Setting) (v : View) (h : Course) : Type 0 where
+pub record AsksSense (s : UnitSetting) (v : View) (h : TicketHistory) : Type 0 where
   pub autosense : s.autosense ≡ true
   pub checked : EndedInCheck v
   pub unmarked : h.marked ≡ false
 
 -- the sentences on the sense: at most one Sense, after the End; the report has its bytes, or none, and none without an End; there is one
 -- only where the driver is to ask, and there it is one unless the bus was reset between the End and the Free
-pub record FitsSense (s : Setting) (v : View) (h : Course) (q : Report) : Type 0 where
+pub record FitsSense (s : UnitSetting) (v : View) (h : TicketHistory) (q : Report) : Type 0 where
   pub at_most_one : v.tally.senses ≤ 1
   pub none_early : v.tally.early ≡ 0
   pub given : q.sense ≡ unwrap_or v.sense []
@@ -149,8 +149,8 @@ pub record FitsSense (s : Setting) (v : View) (h : Course) (q : Report) : Type 0
   pub asked : AsksSense s v h → h.bus_reset ≡ false → v.tally.senses ≡ 1
 
 -- the report of a ticket of a unit that isn't rogue fits the unit's log
-abbrev pub Fits : Setting → (t : ℕ) → PlainRequest → View → Course → Report → Type 0
+abbrev pub Fits : UnitSetting → (t : ℕ) → RequestData → View → TicketHistory → Report → Type 0
 Fits s t r v h q = s.rogue ≡ false → FitsLog s t r v h q
 
-abbrev pub SenseFits : Setting → View → Course → Report → Type 0
+abbrev pub SenseFits : UnitSetting → View → TicketHistory → Report → Type 0
 SenseFits s v h q = s.rogue ≡ false → FitsSense s v h q

@@ -6,23 +6,23 @@ use Rattle.unit_law.specs.declared.entry.LogEntry.{LogEntry}
 use Rattle.unit_law.specs.declared.entry.LogEntry.TheVariants.{Refuse, Look, End, Drop, Clear, Sense}
 use Rattle.unit_law.specs.Log.{Tally, tally, noted, none_of}
 use Rattle.unit_law.proofs.Views.{tally-push}
-use Rattle.unit_log.specs.declared.notes.Note.{Note}
-use Rattle.unit_log.specs.Notes.{note_of, after}
+use Rattle.unit_log.specs.declared.ticket_counts.TicketCounts.{TicketCounts}
+use Rattle.unit_log.specs.Counts.{counts_of, after}
 
--- the note that a tally comes to
-abbrev note_by : ℕ → Tally → Note
-note_by t k = record { ticket = t; refusals = k.refusals; ended = ltb 0 k.ends }
+-- the counts that a tally comes to
+abbrev counts_by : ℕ → Tally → TicketCounts
+counts_by t k = record { ticket = t; refusals = k.refusals; ended = ltb 0 k.ends }
 
-note_by-noted : (t : ℕ) (k : Tally) (e : LogEntry) → note_by t (noted t k e) ≡ after (note_by t k) e
-note_by-noted t k (Refuse x s) = grind (arith, nat_tests)
-note_by-noted t k (Look x) = grind (arith, nat_tests)
-note_by-noted t k (End x) = grind (arith, nat_tests)
-note_by-noted t k (Drop x high) = grind (arith, nat_tests)
-note_by-noted t k Clear = refl
-note_by-noted t k (Sense x) = grind (arith, nat_tests)
+counts_by-noted : (t : ℕ) (k : Tally) (e : LogEntry) → counts_by t (noted t k e) ≡ after (counts_by t k) e
+counts_by-noted t k (Refuse x s) = grind (arith, nat_tests)
+counts_by-noted t k (Look x) = grind (arith, nat_tests)
+counts_by-noted t k (End x) = grind (arith, nat_tests)
+counts_by-noted t k (Drop x high) = grind (arith, nat_tests)
+counts_by-noted t k Clear = refl
+counts_by-noted t k (Sense x) = grind (arith, nat_tests)
 
-pub note_of-push : (log : List LogEntry) (e : LogEntry) (t : ℕ) → note_of (log ++ e ∷ []) t ≡ after (note_of log t) e
-note_of-push log e t = ap (note_by t) (tally-push t log e) ∙ note_by-noted t (tally t log) e
+pub counts_of-push : (log : List LogEntry) (e : LogEntry) (t : ℕ) → counts_of (log ++ e ∷ []) t ≡ after (counts_of log t) e
+counts_of-push log e t = ap (counts_by t) (tally-push t log e) ∙ counts_by-noted t (tally t log) e
 
 -- a ticket has no more refusals than there are entries
 refusals-noted : (t : ℕ) (k : Tally) (e : LogEntry) → (noted t k e).refusals ≤ k.refusals + 1

@@ -1,2 +1,2 @@
-pub mod Journal
-pub mod Notes
+pub mod LogState
+pub mod Counts

@@ -2,9 +2,9 @@
 //! entries come to is read without going over the log.
 #![tactic(auto)]
 
-mod journal;
-mod notes;
+mod log;
 #[cfg(test)]
 mod tests;
+mod ticket_counts;
 
-pub use journal::UnitLog;
+pub use log::UnitLog;

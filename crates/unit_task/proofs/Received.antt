@@ -8,7 +8,7 @@ use Rattle.plain_lun.specs.declared.performing.Answer.{Answer}
 use Rattle.scsi_words.specs.declared.statuses.kinds.Status.TheVariants.{Good}
 use Rattle.cdb_codec.specs.declared.commands.Cdb.{Cdb}
 use Rattle.cdb_codec.specs.declared.commands.Cdb.TheVariants.{RequestSense}
-use Rattle.plain_lun.specs.Unit.{Plain}
+use Rattle.plain_lun.specs.Unit.{UnitState}
 use Rattle.plain_lun.specs.Performing.{Answered, perform, sense_now, sense_data}
 use Rattle.target_law.specs.Session.{Task}
 use Rattle.target_law.specs.Bytes.{put}
@@ -49,14 +49,14 @@ take-none old new got h e =
     rw z refl
 
 -- the sense data at the front of the buffer
-sense-size : (u : Plain) → length (sense_now u) ≡ 18
+sense-size : (u : UnitState) → length (sense_now u) ≡ 18
 unfolding sense_now sense_data
 sense-size u = refl
 
-sense-front : (u : Plain) (rest : List ℕ) → take 18 (sense_now u ++ rest) ≡ take 18 (sense_now u)
+sense-front : (u : UnitState) (rest : List ℕ) → take 18 (sense_now u ++ rest) ≡ take 18 (sense_now u)
 sense-front u rest = take-append-le 18 (sense_now u) rest (omega (arith, sense-size u))
 
-pub kept-sense : (u : Plain) (c : Cdb) (items rest : List ℕ) → c ≡ RequestSense 18 → items ≡ sense_now u ++ rest → kept_of (Some (record { status = Good; sent = 18 })) items ≡ Some (perform u c []).answer
+pub kept-sense : (u : UnitState) (c : Cdb) (items rest : List ℕ) → c ≡ RequestSense 18 → items ≡ sense_now u ++ rest → kept_of (Some (record { status = Good; sent = 18 })) items ≡ Some (perform u c []).answer
 unfolding perform
 kept-sense u c items rest e i = rw (e, i) (ap (λ (bs : List ℕ). let a : Answered = record { status = Good; bytes = bs } in Some a) (sense-front u rest))
 

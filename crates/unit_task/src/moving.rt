@@ -3,7 +3,7 @@
 ghost use Rattle.std.specs.Prelude.{◌≡◌, ◌-◌, ◌<◌, ◌≤◌, true, false, length, None};
 ghost use Rattle.scsi_words.specs.declared.phases.kinds.Direction.TheVariants.{Out};
 ghost use Rattle.cdb_codec.specs.Forms.{need_of};
-ghost use Rattle.plain_lun.specs.Unit.{Plain};
+ghost use Rattle.plain_lun.specs.Unit.{UnitState};
 ghost use Rattle.plain_lun.specs.Performing.{wants_now};
 ghost use Rattle.unit_law.specs.Report.{data_of};
 ghost use Rattle.target_law.specs.Bytes.{data_at, advanced, put, away};
@@ -30,7 +30,7 @@ impl Task {
     pub fn advance(&mut self)
         requires { self.old.position < length (data_of self.old.kept) }
         ensures task { self.new ≡ advanced self.old self.old.received }
-        ensures sound { (u : Plain) → IsSoundTask u self.old → IsSoundTask u self.new }
+        ensures sound { (u : UnitState) → IsSoundTask u self.old → IsSoundTask u self.new }
     {
         self.position += 1;
         self.high = self.high.max(self.position);
@@ -44,7 +44,7 @@ impl Task {
         requires within { self.old.position < 65536 }
         requires no_gap { self.old.position ≤ length self.old.received }
         ensures task { self.new ≡ advanced self.old (put self.old.received self.old.position b) }
-        ensures sound { (u : Plain) → (need_of self.old.cdb).direction ≡ Out →
+        ensures sound { (u : UnitState) → (need_of self.old.cdb).direction ≡ Out →
             self.old.position < (wants_now u self.old.cdb).bytes → IsSoundTask u self.old →
             IsSoundTask u self.new }
     {
@@ -57,7 +57,7 @@ impl Task {
     /// SAVE DATA POINTER: the position is saved.
     pub fn save(&mut self)
         ensures task { self.new ≡ record self.old { saved = self.old.position } }
-        ensures sound { (u : Plain) → IsSoundTask u self.old → IsSoundTask u self.new }
+        ensures sound { (u : UnitState) → IsSoundTask u self.old → IsSoundTask u self.new }
     {
         self.saved = self.position;
     }
@@ -65,7 +65,7 @@ impl Task {
     /// RESTORE POINTERS: the position is the saved one again.
     pub fn restore(&mut self)
         ensures task { self.new ≡ record self.old { position = self.old.saved } }
-        ensures sound { (u : Plain) → IsSoundTask u self.old → IsSoundTask u self.new }
+        ensures sound { (u : UnitState) → IsSoundTask u self.old → IsSoundTask u self.new }
     {
         self.position = self.saved;
     }
@@ -73,7 +73,7 @@ impl Task {
     /// It leaves the bus, and goes back to its saved position.
     pub fn leave(&mut self)
         ensures task { self.new ≡ away self.old }
-        ensures waits { (u : Plain) → IsSoundTask u self.old → IsWaiting u self.new }
+        ensures waits { (u : UnitState) → IsSoundTask u self.old → IsWaiting u self.new }
     {
         self.restore();
         self.just_moved = false;
@@ -82,7 +82,7 @@ impl Task {
     /// It begins a data phase.
     pub fn move_data(&mut self)
         ensures task { self.new ≡ record self.old { fresh = false; just_moved = true } }
-        ensures sound { (u : Plain) → IsSoundTask u self.old → IsSoundTask u self.new }
+        ensures sound { (u : UnitState) → IsSoundTask u self.old → IsSoundTask u self.new }
     {
         self.fresh = false;
         self.just_moved = true;
@@ -91,7 +91,7 @@ impl Task {
     /// It makes a move that is no data phase.
     pub fn turn(&mut self)
         ensures task { self.new ≡ record self.old { fresh = false; just_moved = false } }
-        ensures sound { (u : Plain) → IsSoundTask u self.old → IsSoundTask u self.new }
+        ensures sound { (u : UnitState) → IsSoundTask u self.old → IsSoundTask u self.new }
     {
         self.fresh = false;
         self.just_moved = false;
@@ -104,7 +104,7 @@ impl Task {
         requires { 0 < self.old.budget }
         ensures task { self.new ≡
             record self.old { budget = self.old.budget - 1; fresh = false; just_moved = false } }
-        ensures sound { (u : Plain) → IsSoundTask u self.old → IsSoundTask u self.new }
+        ensures sound { (u : UnitState) → IsSoundTask u self.old → IsSoundTask u self.new }
     {
         self.budget -= 1;
         self.turn();

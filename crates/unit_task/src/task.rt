@@ -3,7 +3,7 @@
 ghost use Rattle.std.specs.Prelude.{◌≡◌, ◌≤◌, ◌↔◌, true, false, length, IfOk, IsTrue, IsSome};
 ghost use Rattle.cdb_codec.specs.declared.commands.Cdb.TheVariants.{RequestSense, TestUnitReady};
 ghost use Rattle.cdb_codec.specs.Forms.{FitsForm, need_of};
-ghost use Rattle.plain_lun.specs.Unit.{Plain};
+ghost use Rattle.plain_lun.specs.Unit.{UnitState};
 ghost use Rattle.target_law.specs.Session.{asks_sense, began};
 ghost use Rattle.target_law.specs.Sound.{IsWaiting};
 
@@ -87,7 +87,7 @@ impl Task {
     /// in the unit's log: a REQUEST SENSE of length 18 is then a sense task, whose budget is 0.
     pub fn begin(&mut self, tag: u8, ticket: u32, cdb: Cdb, disconnects: u8, ended: bool)
         ensures task { self.new ≡ began tag ticket cdb disconnects ended }
-        ensures waits { FitsForm cdb → (need_of cdb).bytes ≤ 65536 → (u : Plain) → IsWaiting u self.new }
+        ensures waits { FitsForm cdb → (need_of cdb).bytes ≤ 65536 → (u : UnitState) → IsWaiting u self.new }
     {
         let senses = asks_sense(&cdb, ended);
         self.tag = tag;

@@ -1,7 +1,7 @@
 -- The tasks of a unit that aren't connected, with the places for further ones.
 use Rattle.std.specs.Prelude.{ℕ, ◌+◌, ◌^◌, ◌<◌, ◌≤◌, List, length}
 use Rattle.std.specs.List.{All, AllPairs}
-use Rattle.plain_lun.specs.Unit.{Plain}
+use Rattle.plain_lun.specs.Unit.{UnitState}
 use Rattle.target_law.specs.Session.{Task}
 use Rattle.target_law.specs.Sound.{IsWaiting}
 
@@ -25,5 +25,5 @@ pub record IsQueue (depth : ℕ) (tasks : List Task) (idle tasks_capacity idle_c
   pub idle_fit : depth ≤ idle_capacity
 
 -- each task waits at this unit
-abbrev pub AllWait : Plain → List Task → Type 0
+abbrev pub AllWait : UnitState → List Task → Type 0
 AllWait u tasks = All (IsWaiting u) tasks

@@ -1,7 +1,7 @@
 //! A logical unit with its tasks.
 
 ghost use Rattle.std.specs.Prelude.{◌≡◌, ◌+◌, ◌-◌, ◌<◌, ◌≤◌, false, length, IfOk};
-ghost use Rattle.plain_lun.specs.Unit.{Plain};
+ghost use Rattle.plain_lun.specs.Unit.{UnitState};
 ghost use Rattle.cdb_codec.specs.Forms.{FitsForm, need_of};
 ghost use Rattle.target_law.specs.Session.{Task as TaskOf, began};
 ghost use Rattle.target_law.specs.Sound.{IsWaiting};
@@ -69,7 +69,7 @@ impl QueuedUnit {
         ensures task { let ended = has_ended self.old.core.log.entries ticket in
             result ≡ began tag ticket cdb self.old.rig.disconnects ended }
         ensures after { self.new ≡ holding self.old (unit_of self.old) (self.old.tasks.idle - 1) }
-        ensures waits { FitsForm cdb → (need_of cdb).bytes ≤ 65536 → (u : Plain) → IsWaiting u result }
+        ensures waits { FitsForm cdb → (need_of cdb).bytes ≤ 65536 → (u : UnitState) → IsWaiting u result }
     {
         let ended = self.core.log.has_ended(ticket);
         let mut task = self.tasks.take_place();

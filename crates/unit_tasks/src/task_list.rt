@@ -1,7 +1,7 @@
 //! The tasks of a unit that aren't connected, by rising tag.
 
 ghost use Rattle.std.specs.Prelude.{◌≡◌, ◌+◌, ◌-◌, ◌^◌, ◌<◌, ◌≤◌, [], length, remove, slice_get, Some, IfOk};
-ghost use Rattle.plain_lun.specs.Unit.{Plain};
+ghost use Rattle.plain_lun.specs.Unit.{UnitState};
 ghost use Rattle.target_law.specs.Sound.{IsSoundTask, IsWaiting};
 ghost use Rattle.target_law.specs.Bytes.{away};
 ghost use Rattle.target_law.specs.Target.{by_tag};
@@ -99,7 +99,7 @@ impl TaskList {
         requires { length self.old.tasks + self.old.idle < self.old.depth }
         ensures after { self.new ≡ record self.old { tasks = by_tag (away task) self.old.tasks } }
         ensures len { length self.new.tasks ≡ length self.old.tasks + 1 }
-        ensures waiting { (u : Plain) → IsSoundTask u task → AllWait u self.old.tasks →
+        ensures waiting { (u : UnitState) → IsSoundTask u task → AllWait u self.old.tasks →
             AllWait u self.new.tasks }
     {
         let mut task = task;
@@ -117,8 +117,8 @@ impl TaskList {
         ensures task { slice_get self.old.tasks n ≡ Some result }
         ensures after { self.new ≡ record self.old { tasks = remove self.old.tasks n } }
         ensures len { length self.new.tasks + 1 ≡ length self.old.tasks }
-        ensures waiting { (u : Plain) → AllWait u self.old.tasks → IsWaiting u result }
-        ensures others { (u : Plain) → AllWait u self.old.tasks → AllWait u self.new.tasks }
+        ensures waiting { (u : UnitState) → AllWait u self.old.tasks → IsWaiting u result }
+        ensures others { (u : UnitState) → AllWait u self.old.tasks → AllWait u self.new.tasks }
     {
         self.tasks.remove(n)
     }

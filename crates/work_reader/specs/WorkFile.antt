@@ -283,15 +283,15 @@ work_fault ms =
     ∷ [])
 
 -- a work without the proofs that it holds
-pub record PlainWork : Type 0 where
+pub record WorkData : Type 0 where
   pub submitters : List (List PlainCommand)
   pub acts : List Act
 
-abbrev pub plain_work : Work → PlainWork
+abbrev pub plain_work : Work → WorkData
 plain_work w = record { submitters = map (λ (s : List Command). map plain s) w.submitters; acts = w.acts }
 
 -- the work that a table spells, where nothing is wrong with it
-abbrev pub work_of : Members → PlainWork
+abbrev pub work_of : Members → WorkData
 work_of ms = record {
   submitters = map (λ (s : List PlainSpelled). map filled s) (submitters_of ms);
   acts = entries_of act_in (items_of act_key ms);

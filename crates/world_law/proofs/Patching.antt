@@ -5,7 +5,7 @@ use Rattle.rig_types.specs.declared.acts.Act.{Act}
 use Rattle.rig_types.specs.declared.step.Line.{Line}
 use Rattle.rig_types.specs.declared.step.Step.{Step}
 use Rattle.rig_types.specs.declared.step.Step.TheVariants as step
-use Rattle.unit_law.specs.Request.{PlainRequest, plain}
+use Rattle.unit_law.specs.Request.{RequestData, plain}
 use Rattle.phase_fix.specs.declared.moves.DataMove.{DataMove}
 use Rattle.phase_fix.specs.Moves.{move_at}
 use Rattle.desk_law.specs.declared.refused.Refused.{Refused}
@@ -25,7 +25,7 @@ use Rattle.world_law.specs.Steps.{TakesOf, FreesTicket, Does}
 
 -- ---- Build
 
-accepts-once : (old : World) (l : Line) (r : PlainRequest) (t u : ℕ) (new other : World) → Accepts old l r t new → Accepts old l r u other → (reply.Built t ≡ reply.Built u) × (new ≡ other)
+accepts-once : (old : World) (l : Line) (r : RequestData) (t u : ℕ) (new other : World) → Accepts old l r t new → Accepts old l r u other → (reply.Built t ≡ reply.Built u) × (new ≡ other)
 accepts-once old l r t u new other m n =
     let e : (t ≡ u) × (new.desk ≡ other.desk) × (new.memory ≡ other.memory) = builds_once old.desk old.memory l r t u new.desk other.desk new.memory other.memory m.builds n.builds in
     let made : ℕ → DeskState → List ℕ → World = λ k d x. record (decides old l (line.Accepted k)) {

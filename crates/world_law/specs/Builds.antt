@@ -4,7 +4,7 @@ use Rattle.rig_types.specs.declared.commands.Command.{Command}
 use Rattle.rig_types.specs.declared.commands.WhenFull.{WhenFull}
 use Rattle.rig_types.specs.declared.commands.WhenFull.TheVariants.{Wait}
 use Rattle.rig_types.specs.declared.step.Line.{Line}
-use Rattle.unit_law.specs.Request.{PlainRequest, plain}
+use Rattle.unit_law.specs.Request.{RequestData, plain}
 use Rattle.desk_law.specs.declared.refused.Refused.{Refused}
 use Rattle.desk_law.specs.declared.refused.Refused.TheVariants.{LunFull, RegionFull}
 use Rattle.desk_law.specs.Desk.{unit}
@@ -32,7 +32,7 @@ refuses true w l r = w
 refuses false w l r = decides w l (line.Refused r)
 
 -- the desk builds the ticket, and the logs of its unit's target get their room
-pub record Accepts (old : World) (l : Line) (r : PlainRequest) (t : ℕ) (new : World) : Type 0 where
+pub record Accepts (old : World) (l : Line) (r : RequestData) (t : ℕ) (new : World) : Type 0 where
   pub builds : Builds old.desk old.memory l r t new.desk new.memory
   pub world : new ≡ record (decides old l (line.Accepted t)) {
     memory = new.memory;

@@ -3,7 +3,7 @@ use Rattle.std.specs.Prelude.{◌≡◌, ℕ, ◌==◌, if◌then◌else◌}
 use Rattle.chip_regs.specs.declared.registers.Cause.{Cause}
 use Rattle.chip_regs.specs.declared.registers.Cause.TheVariants.{Sir, Iid, Bf, Ma, Udc, Rst, Sto}
 use Rattle.chip_step.specs.Chip.{Chip, state}
-use Rattle.chip_step.specs.Step.{Ran}
+use Rattle.chip_step.specs.Step.{ChipStep}
 use Rattle.chip_step.specs.declared.outcome.StepEnd.{StepEnd}
 use Rattle.chip_step.specs.declared.outcome.StepEnd.TheVariants.{Idle, Stopped}
 use Rattle.bus_law.specs.Bus.{BusState}
@@ -44,6 +44,6 @@ reply_for _ = reply.Made
 pub record RunsChip (old : World) (word : ℕ) (answer : Reply) (new : World) : Type 0 where
   pub end : StepEnd
   pub chip : Chip BusState
-  pub ran : Ran (moves old.desk.units (live old.desk)) word (chip_of old) end chip
+  pub ran : ChipStep (moves old.desk.units (live old.desk)) word (chip_of old) end chip
   pub answer_is : answer ≡ reply_for end
   pub world : new ≡ after_chip old end chip

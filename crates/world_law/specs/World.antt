@@ -8,7 +8,7 @@ use Rattle.rig_types.specs.declared.step.Line.{Line}
 use Rattle.rig_types.specs.declared.report.Report.{Report}
 use Rattle.rig_types.specs.Ranges.{IsRig}
 use Rattle.rig_types.specs.Works.{IsWork}
-use Rattle.unit_law.specs.Request.{PlainRequest, plain}
+use Rattle.unit_law.specs.Request.{RequestData, plain}
 use Rattle.unit_law.specs.declared.entry.LogEntry.{LogEntry}
 use Rattle.chip_regs.specs.declared.registers.Regs.{Regs}
 use Rattle.target_law.specs.declared.nexus.Nexus.{Nexus}
@@ -65,7 +65,7 @@ decided w l = slice_index_or (lines_of w l.submitter) l.number Open
 abbrev pub command_at : Setting → Line → Option Command
 command_at g l = slice_get (commands_of g l.submitter) l.number
 
-abbrev pub request_at : Setting → Line → Option PlainRequest
+abbrev pub request_at : Setting → Line → Option RequestData
 request_at g l = option_map (λ (c : Command). plain c.request) (command_at g l)
 
 -- ---- units

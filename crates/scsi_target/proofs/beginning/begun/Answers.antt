@@ -2,4 +2,4 @@ use Rattle.scsi_target.proofs.Begins.{begun_from}
 use Rattle.scsi_target.proofs.beginning.begun.Goals as goal
 
 pub returns-clause-state : goal.returns-clause-state
-returns-clause-state c = begun_from c.args.units.now.items c.begin_where.new.units.items c.args.link c.begin_where.result c.in-Commanded.nexus c.in-Commanded.block c.args.ticket c.in-Commanded.is c.begin_where.ensures.state
+returns-clause-state c = begun_from c.args.units.now.items c.begin_where.new.units.items c.args.link c.begin_where.result c.in-TakingCommand.nexus c.in-TakingCommand.block c.args.ticket c.in-TakingCommand.is c.begin_where.ensures.state

@@ -3,14 +3,14 @@ use Rattle.target_law.specs.Calls.{target_acked}
 use Rattle.target_law.proofs.Tags.{tags_stay}
 use Rattle.scsi_target.specs.Held.{IsHeldDevice}
 use Rattle.scsi_target.specs.Views.{device_of}
-use Rattle.scsi_target.specs.declared.link.Link.{Link as HeldLink}
+use Rattle.scsi_target.specs.declared.connection_state.ConnectionState.{ConnectionState as HeldState}
 use Rattle.scsi_target.proofs.Tagging.{told_where}
 use Rattle.scsi_target.proofs.device.Device.end_ack.Goals as goal
 
 pub invariant_of-self : goal.invariant_of-self
 invariant_of-self c =
     let old : IsHeldDevice (vec_len c.self.inside.units) c.self.inside.units.items c.replace-link.result c.self.inside.rogue =
-    subst (λ (l : HeldLink). IsHeldDevice (vec_len c.self.inside.units) c.self.inside.units.items l c.self.inside.rogue) (sym c.replace-link.ensures.value) c.self.invariant in
+    subst (λ (l : HeldState). IsHeldDevice (vec_len c.self.inside.units) c.self.inside.units.items l c.self.inside.rogue) (sym c.replace-link.ensures.value) c.self.invariant in
     record {
       device = c.acked.ensures.device c.self.inside.rogue old.device;
       tags = told_where (device_of c.self.inside.units.items c.replace-link.result) (target_acked (device_of c.self.inside.units.items c.replace-link.result).target) c.acked.new.units.items c.acked.result c.acked.ensures.state old.tags (tags_stay.acked _ old.tags);

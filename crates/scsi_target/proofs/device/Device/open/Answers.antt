@@ -1,6 +1,6 @@
 use Rattle.std.proofs.Common.{subst, sym, vec_len}
 use Rattle.scsi_target.specs.Views.{IsDevice}
-use Rattle.scsi_target.specs.declared.link.Link.TheVariants as held
+use Rattle.scsi_target.specs.declared.connection_state.ConnectionState.TheVariants as held
 use Rattle.scsi_target.proofs.Opening.{opens_start, opens_more, opens_device, opens_state}
 use Rattle.target_law.proofs.Tags.{tags_stay}
 use Rattle.scsi_target.proofs.Tagging.{told}
@@ -16,8 +16,8 @@ loop-unit-preserved c =
 
 pub invariant_of-result : goal.invariant_of-result
 invariant_of-result c = record {
-  device = subst (λ b. IsDevice (vec_len c.loop-unit.slots) c.loop-unit.slots.items held.Free b) (sym c.first_is_rogue-rogue.ensures) (opens_device _ _ _ _ c.loop-unit.invariant c.loop-unit-test.false);
-  tags = told _ _ held.Free (opens_state _ _ _ _ c.loop-unit.invariant c.loop-unit-test.false) (tags_stay.opened _);
+  device = subst (λ b. IsDevice (vec_len c.loop-unit.slots) c.loop-unit.slots.items held.BusFree b) (sym c.first_is_rogue-rogue.ensures) (opens_device _ _ _ _ c.loop-unit.invariant c.loop-unit-test.false);
+  tags = told _ _ held.BusFree (opens_state _ _ _ _ c.loop-unit.invariant c.loop-unit-test.false) (tags_stay.opened _);
 }
 
 pub returns : goal.returns

@@ -2,20 +2,20 @@ use Rattle.std.proofs.Common.{false, Some, ◌<◌, ◌∙◌, arith, subst, len
 use Rattle.scsi_target.proofs.Places.{there_in, read_unit, is_unit, not_none, in_range}
 use Rattle.scsi_target.proofs.Moving.{free_link}
 use Rattle.scsi_target.proofs.Reselecting.{few, device_named, view_named, device_back, view_back}
-use Rattle.target_law.specs.declared.showing.NamePart.TheVariants as part
-use Rattle.target_law.specs.declared.stray.Stray.TheVariants.{Naming}
+use Rattle.target_law.specs.declared.task_phase.ReselectByte.TheVariants as part
+use Rattle.target_law.specs.declared.rogue_phase.RoguePhase.TheVariants.{Reselection}
 use Rattle.target_law.proofs.Tags.{tags_stay}
-use Rattle.scsi_target.specs.declared.link.Link.TheVariants as held
+use Rattle.scsi_target.specs.declared.connection_state.ConnectionState.TheVariants as held
 use Rattle.scsi_target.proofs.Tagging.{seen, told}
 use Rattle.scsi_target.proofs.device.Device.reselect.Goals as goal
-use Rattle.scsi_target.proofs.device.Device.reselect.Goals.{in-Working-2, in-Free-2}
+use Rattle.scsi_target.proofs.device.Device.reselect.Goals.{in-TaskConnected-2, in-BusFree-2}
 
 pub invariant_of-self : goal.invariant_of-self
 invariant_of-self c =
     let t = there_in _ _ _ c.self.view_is c.args.lun _ c.requires.candidate in
     record {
       device = device_named _ _ _ _ c.args.lun c.args.tag t.0 _ c.self.invariant.device (free_link _ _ _ c.self.view_is c.requires.free) c.if-self.true t.1;
-      tags = told _ _ (held.Straying (Naming part.Lun false) (Some (record { lun = c.args.lun; tag = c.args.tag }))) (view_named _ _ c.self.inside.link c.args.lun c.args.n c.args.tag t.0 _ c.self.view_is t.1 (c.self.invariant.device.slots_are _ t.0 t.1).rogue c.if-self.true) (tags_stay.reselected c.args.lun c.args.n c.args.tag _ (seen _ _ _ c.self.view_is c.self.invariant.tags));
+      tags = told _ _ (held.RogueConnected (Reselection part.Identify false) (Some (record { lun = c.args.lun; tag = c.args.tag }))) (view_named _ _ c.self.inside.link c.args.lun c.args.n c.args.tag t.0 _ c.self.view_is t.1 (c.self.invariant.device.slots_are _ t.0 t.1).rogue c.if-self.true) (tags_stay.reselected c.args.lun c.args.n c.args.tag _ (seen _ _ _ c.self.view_is c.self.invariant.tags));
     }
 
 pub returns-then-self : goal.returns-then-self
@@ -46,7 +46,7 @@ invariant_of-self-in-Some-2 c =
     let p = read_unit _ _ _ c.self.view_is c.args.lun _ c.in-Some.unit _ c.requires.candidate c.index_mut.ensures.value c.in-Some.is in
     record {
       device = device_back _ _ _ _ c.args.lun c.args.n c.in-Some.unit c.take_out-task.result c.take_out-task.new.self c.reselect.result c.self.invariant.device (free_link _ _ _ c.self.view_is c.requires.free) c.if-self.false p c.take_out-task.ensures.after c.take_out-task.ensures.len c.reselect.ensures.connection c.take_out-task.ensures.waiting c.take_out-task.ensures.others c.reselect.ensures.sound;
-      tags = told _ _ (held.Working c.reselect.result) (view_back _ _ c.self.inside.link c.args.lun c.args.n c.args.tag c.in-Some.unit c.take_out-task.result c.take_out-task.new.self c.reselect.result _ c.self.view_is p (c.self.invariant.device.slots_are _ c.in-Some.unit p).rogue c.if-self.false c.take_out-task.ensures.task c.take_out-task.ensures.after c.reselect.ensures.connection) (tags_stay.reselected c.args.lun c.args.n c.args.tag _ (seen _ _ _ c.self.view_is c.self.invariant.tags));
+      tags = told _ _ (held.TaskConnected c.reselect.result) (view_back _ _ c.self.inside.link c.args.lun c.args.n c.args.tag c.in-Some.unit c.take_out-task.result c.take_out-task.new.self c.reselect.result _ c.self.view_is p (c.self.invariant.device.slots_are _ c.in-Some.unit p).rogue c.if-self.false c.take_out-task.ensures.task c.take_out-task.ensures.after c.reselect.ensures.connection) (tags_stay.reselected c.args.lun c.args.n c.args.tag _ (seen _ _ _ c.self.view_is c.self.invariant.tags));
     }
 
 pub returns-in-Some : goal.returns-in-Some
@@ -54,8 +54,8 @@ returns-in-Some c =
     let p = read_unit _ _ _ c.self.view_is c.args.lun _ c.in-Some.unit _ c.requires.candidate c.index_mut.ensures.value c.in-Some.is in
     let v = view_back _ _ c.self.inside.link c.args.lun c.args.n c.args.tag c.in-Some.unit c.take_out-task.result c.take_out-task.new.self c.reselect.result _ c.self.view_is p (c.self.invariant.device.slots_are _ c.in-Some.unit p).rogue c.if-self.false c.take_out-task.ensures.task c.take_out-task.ensures.after c.reselect.ensures.connection in
     elim c.match-self-2.branch [
-      | in-Working-2 w ↦ w.self-is ∙ v
-      | in-Free-2 w ↦ w.self-is ∙ v
+      | in-TaskConnected-2 w ↦ w.self-is ∙ v
+      | in-BusFree-2 w ↦ w.self-is ∙ v
     ]
 
 pub returns-in_default : goal.returns-in_default

@@ -4,7 +4,7 @@ use Rattle.target_law.specs.Lawful.{IsThere}
 use Rattle.target_law.specs.Target.{LogicalUnit, unit_at}
 use Rattle.unit_tasks.specs.declared.queued.QueuedUnit.{QueuedUnit}
 use Rattle.unit_tasks.specs.Units.{unit_of}
-use Rattle.unit_log.specs.Journal.{Journal}
+use Rattle.unit_log.specs.LogState.{LogState}
 use Rattle.scsi_target.specs.Slots.{room_of, slot_of}
 use Rattle.scsi_target.specs.Views.{IsSlot, device_of, link_of}
 use Rattle.target_law.specs.Devices.{DeviceState, device_reserved}
@@ -71,7 +71,7 @@ on_err (Err e) f h = f h
 
 same_device : (c : goal.After-self-1) → c.reserve.new.self ≡ c.in-Some.unit.core.log → device_of (slice_set c.self.inside.units.items c.args.lun (Some (after c))) c.self.inside.link ≡ c.args.self.now
 same_device c h =
-    let same : after c ≡ c.in-Some.unit = ap (λ (log : Journal). record { rig = c.in-Some.unit.rig; core = record { lun = c.in-Some.unit.core.lun; log = log }; tasks = c.in-Some.unit.tasks }) h in
+    let same : after c ≡ c.in-Some.unit = ap (λ (log : LogState). record { rig = c.in-Some.unit.rig; core = record { lun = c.in-Some.unit.core.lun; log = log }; tasks = c.in-Some.unit.tasks }) h in
     ap (λ (q : QueuedUnit). device_of (slice_set c.self.inside.units.items c.args.lun (Some q)) c.self.inside.link) same
     ∙ ap (λ (us : List (Option LogicalUnit)). record { target = record { units = us; link = link_of c.self.inside.link }; rooms = map room_of (slice_set c.self.inside.units.items c.args.lun (Some c.in-Some.unit)) }) (units_stay _ c.args.lun c.in-Some.unit c.in-Some.unit (place c) refl)
     ∙ ap (λ (rs : List ℕ). record { target = record { units = map slot_of c.self.inside.units.items; link = link_of c.self.inside.link }; rooms = rs }) (rooms_stay _ c.args.lun c.in-Some.unit c.in-Some.unit (place c) refl)
