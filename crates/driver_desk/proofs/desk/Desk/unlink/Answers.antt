@@ -1,0 +1,17 @@
+use Rattle.std.proofs.Common.{rules, ◌≡◌, ◌<◌, length, false, refl, sym, ap, subst, not}
+use Rattle.desk_law.specs.declared.ticket.Ticket.{Ticket}
+use Rattle.desk_law.specs.Desk.{DeskState, is_freed}
+use Rattle.driver_desk.specs.Conditions.{IsEnded}
+use Rattle.driver_desk.proofs.Index.{live_stays, seen}
+use Rattle.driver_desk.proofs.Stages.{ended_lives}
+use Rattle.driver_desk.proofs.desk.Desk.unlink.Goals as goal
+
+-- src/desk.rt:400:5
+pub invariant_of-self : goal.invariant_of-self
+invariant_of-self c =
+    let old = c.index_mut-k.result.now in
+    let there : c.args.t < length c.self.inside.tickets.items = search rules in
+    let is = seen c.args.self.now c.self.inside.tickets.items c.args.t old (ap (λ (d : DeskState). d.tickets) c.self.view_is) there c.index_mut-k.ensures.value in
+    let live : is_freed old.stage ≡ false = ended_lives old.stage (subst (λ (k : Ticket). IsEnded k.stage) is c.requires.ended) in
+    live_stays _ _ _ _ _ _ _ _ _ c.args.t _ old c.self.invariant there c.index_mut-k.ensures.value
+    (record { line = refl; pieces = refl; unit = refl; tag = refl; block = refl; lives = sym (ap not live) }) (λ most. most)

@@ -1,0 +1,8 @@
+//! The driver's desk: tickets, ring positions, the buffer region and the signals that are due, as the definitions of
+//! `desk_law` have them.
+#![tactic(auto)]
+
+mod blocks;
+mod desk;
+
+pub use desk::Desk;
