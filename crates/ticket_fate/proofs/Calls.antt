@@ -38,12 +38,13 @@ unit-ticket-changed g tickets x k u d e s h = unit-changed g tickets x k u u (re
 }) h
 
 -- a connected ticket with other fields
-pub again : (g : Plan) (x : ℕ) (old k : Ticket) (log : List LogEntry) → old.life ≡ Connected → k.life ≡ Connected → k.since ≡ old.since → TicketKept g x old log
+pub again : (g : Plan) (x : ℕ) (old k : Ticket) (log : List LogEntry) → old.life ≡ Connected → k.life ≡ Connected → (k.since ≡ old.since) × (k.before ≡ old.before) → TicketKept g x old log
     → (HasTask g.retries (g.requests x) old.tag old.tries old.buffer old.task (view_for g x log) → HasTask g.retries (g.requests x) k.tag k.tries k.buffer k.task (view_for g x log)) → TicketKept g x k log
-again g x old k log e f since s r = record {
+again g x old k log e f same s r = record {
   fate = subst (λ l. Fate g x l k (view_for g x log)) (sym f) (r (fate_at g x old log Connected s e));
   absent = λ a. absurd (needs g x old log Connected s e (λ z. z) a);
-  since = subst (λ n. n ≤ (view_for g x log).tally.clears) (sym since) s.since;
+  since = subst (λ n. n ≤ (view_for g x log).tally.clears) (sym same.0) s.since;
+  before = same.1 ∙ s.before;
 }
 
 module _ (g : Plan) (count : ℕ) (plan : IsPlan g count) (i : ℕ) (tickets : ℕ → Ticket) (t : Target) (h : TargetKept g count i tickets t) (c : Connection) (working : t.link ≡ Working c) where
@@ -63,12 +64,12 @@ module _ (g : Plan) (count : ℕ) (plan : IsPlan g count) (i : ℕ) (tickets : �
   at_lun_there = ap (unit_at t.units) at_work.lun ∙ (h.units (unit_of g x) (plan.known x) at_work.target).1
 
   -- the connection goes on as another one, with its ticket changed
-  pub turn : (k : Ticket) (d : Connection) → k.life ≡ Connected → k.task ≡ d.task → d.task.ticket ≡ x → d.lun ≡ c.lun → k.since ≡ (tickets x).since
+  pub goes-on : (k : Ticket) (d : Connection) → k.life ≡ Connected → k.task ≡ d.task → d.task.ticket ≡ x → d.lun ≡ c.lun → (k.since ≡ (tickets x).since) × (k.before ≡ (tickets x).before)
       → ((log : List LogEntry) → HasTask g.retries (g.requests x) (tickets x).tag (tickets x).tries (tickets x).buffer c.task (view_for g x log) → HasTask g.retries (g.requests x) k.tag k.tries k.buffer d.task (view_for g x log))
       → ((u : LogicalUnit) → IsSound (session u c) → IsSound (session u d)) → ShownFits d.shows d.task → TargetKept g count i (with_at tickets x k) (linked t (Working d))
-  turn k d life task own lun since runs sound worth = record {
+  goes-on k d life task own lun same runs sound worth = record {
     units = units-ticket-changed g count plan i tickets t h.units x k (λ u kept. unit-ticket-changed g tickets x k u (not-away (tickets x) at_work.life) (not-away k life)
-        (again g x (tickets x) k u.log at_work.life life since (kept.each x refl)
+        (again g x (tickets x) k u.log at_work.life life same (kept.each x refl)
         (λ r. subst (λ z. HasTask g.retries (g.requests x) k.tag k.tries k.buffer z (view_for g x u.log)) (sym task)
         (runs u.log (subst (λ z. HasTask g.retries (g.requests x) (tickets x).tag (tickets x).tries (tickets x).buffer z (view_for g x u.log)) at_work.task r))))
         kept) (Working d);
@@ -87,7 +88,7 @@ module _ (g : Plan) (count : ℕ) (plan : IsPlan g count) (i : ℕ) (tickets : �
   sent (Receiving n) e at b place byte = cc
   sent (Sending n) e at b place byte =
       let f : c.task.fresh ≡ false = subst (λ z. ShownFits z c.task) e at_work.worth in
-      turn (ticket_sent (Sending n) at b (tickets x) (sent_by (Sending n) c).task) (sent_by (Sending n) c) at_work.life refl refl refl refl
+      goes-on (ticket_sent (Sending n) at b (tickets x) (sent_by (Sending n) c).task) (sent_by (Sending n) c) at_work.life refl refl refl (refl, refl)
       (λ log r. subst (λ p. HasTask g.retries (g.requests x) (tickets x).tag (tickets x).tries (put (tickets x).buffer p b) (advanced c.task c.task.received) (view_for g x log)) (sym place)
       (given g.retries (g.requests x) (tickets x).tag (tickets x).tries (tickets x).buffer c.task (view_for g x log) own_unit.plain b (plan.accepted x) sound_now.task f r byte))
       (λ u s. sent-sound (Sending n) u c b e s byte) (less n f)
@@ -97,10 +98,10 @@ module _ (g : Plan) (count : ℕ) (plan : IsPlan g count) (i : ℕ) (tickets : �
       less (suc zero) f = tt
       less (suc (suc n)) f = f
   sent (Telling v) e at b place byte =
-      turn (ticket_sent (Telling v) at b (tickets x) (sent_by (Telling v) c).task) (sent_by (Telling v) c) at_work.life refl refl refl refl (λ log r. r)
+      goes-on (ticket_sent (Telling v) at b (tickets x) (sent_by (Telling v) c).task) (sent_by (Telling v) c) at_work.life refl refl refl (refl, refl) (λ log r. r)
       (λ u s. sent-sound (Telling v) u c b e s byte) (subst (λ z. ShownFits z c.task) e at_work.worth)
   sent (Saying n s) e at b place byte =
-      turn (ticket_sent (Saying n s) at b (tickets x) (sent_by (Saying n s) c).task) (sent_by (Saying n s) c) at_work.life refl refl refl refl (λ log r. r)
+      goes-on (ticket_sent (Saying n s) at b (tickets x) (sent_by (Saying n s) c).task) (sent_by (Saying n s) c) at_work.life refl refl refl (refl, refl) (λ log r. r)
       (λ u z. sent-sound (Saying n s) u c b e z byte) (subst (λ z. ShownFits z c.task) e at_work.worth)
 
   pub byte-in : (at b : ℕ) → at ≡ c.task.position → byte_by c.shows c.task c.lun ≡ Some b
@@ -113,7 +114,7 @@ module _ (g : Plan) (count : ℕ) (plan : IsPlan g count) (i : ℕ) (tickets : �
   byte-out n at b e place byte =
       let f : c.task.fresh ≡ false = subst (λ z. ShownFits z c.task) e at_work.worth in
       let w : IsReceiving (session own_unit c) n = subst (λ z. IsWorth z (session own_unit c)) e sound_now.worth in
-      turn (record (tickets x) { task = (took_by (Receiving n) c b).task }) (took_by (Receiving n) c b) at_work.life refl refl refl refl
+      goes-on (record (tickets x) { task = (took_by (Receiving n) c b).task }) (took_by (Receiving n) c b) at_work.life refl refl refl (refl, refl)
       (λ log r. taken g.retries (g.requests x) (tickets x).tag (tickets x).tries (tickets x).buffer c.task (view_for g x log) own_unit.plain b (plan.accepted x) sound_now.task f w.way
       (receiving-place (session own_unit c) n sound_now w) r (ap (slice_get (tickets x).buffer) (sym place) ∙ byte))
       (λ u s. took-sound n u c b e s) (less n f)
@@ -126,14 +127,14 @@ module _ (g : Plan) (count : ℕ) (plan : IsPlan g count) (i : ℕ) (tickets : �
   -- a message is acknowledged that leaves the task connected
   pub heard : (n : Note) (s : Bool) → c.shows ≡ Saying n s → ((v : Verdict) → n ≡ Complete v → ⊥) → (n ≡ LeaveNow → ⊥)
       → TargetKept g count i (with_at tickets x (record (tickets x) { task = (heard_by n c).task })) (linked t (Working (heard_by n c)))
-  heard (Name part.Lun) s e d f = turn (record (tickets x) { task = c.task }) (heard_by (Name part.Lun) c) at_work.life refl refl refl refl (λ log r. r) (λ u z. heard-sound (Name part.Lun) s u c e z) tt
-  heard (Name part.Queue) s e d f = turn (record (tickets x) { task = c.task }) (heard_by (Name part.Queue) c) at_work.life refl refl refl refl (λ log r. r) (λ u z. heard-sound (Name part.Queue) s u c e z) tt
-  heard (Name part.Tag) s e d f = turn (record (tickets x) { task = c.task }) (heard_by (Name part.Tag) c) at_work.life refl refl refl refl (λ log r. r) (λ u z. heard-sound (Name part.Tag) s u c e z) tt
+  heard (Name part.Lun) s e d f = goes-on (record (tickets x) { task = c.task }) (heard_by (Name part.Lun) c) at_work.life refl refl refl (refl, refl) (λ log r. r) (λ u z. heard-sound (Name part.Lun) s u c e z) tt
+  heard (Name part.Queue) s e d f = goes-on (record (tickets x) { task = c.task }) (heard_by (Name part.Queue) c) at_work.life refl refl refl (refl, refl) (λ log r. r) (λ u z. heard-sound (Name part.Queue) s u c e z) tt
+  heard (Name part.Tag) s e d f = goes-on (record (tickets x) { task = c.task }) (heard_by (Name part.Tag) c) at_work.life refl refl refl (refl, refl) (λ log r. r) (λ u z. heard-sound (Name part.Tag) s u c e z) tt
   heard (Complete v) s e d f = absurd (d v refl)
   heard LeaveNow s e d f = absurd (f refl)
-  heard SaveThenLeave s e d f = turn (record (tickets x) { task = (heard_by SaveThenLeave c).task }) (heard_by SaveThenLeave c) at_work.life refl refl refl refl
+  heard SaveThenLeave s e d f = goes-on (record (tickets x) { task = (heard_by SaveThenLeave c).task }) (heard_by SaveThenLeave c) at_work.life refl refl refl (refl, refl)
       (λ log r. pointed g.retries (g.requests x) _ _ _ c.task _ c.task.position c.task.position c.task.just_moved r) (λ u z. heard-sound SaveThenLeave s u c e z) tt
-  heard SaveNow s e d f = turn (record (tickets x) { task = (heard_by SaveNow c).task }) (heard_by SaveNow c) at_work.life refl refl refl refl
+  heard SaveNow s e d f = goes-on (record (tickets x) { task = (heard_by SaveNow c).task }) (heard_by SaveNow c) at_work.life refl refl refl (refl, refl)
       (λ log r. pointed g.retries (g.requests x) _ _ _ c.task _ c.task.position c.task.position c.task.just_moved r) (λ u z. heard-sound SaveNow s u c e z) tt
-  heard RestoreNow s e d f = turn (record (tickets x) { task = (heard_by RestoreNow c).task }) (heard_by RestoreNow c) at_work.life refl refl refl refl
+  heard RestoreNow s e d f = goes-on (record (tickets x) { task = (heard_by RestoreNow c).task }) (heard_by RestoreNow c) at_work.life refl refl refl (refl, refl)
       (λ log r. pointed g.retries (g.requests x) _ _ _ c.task _ c.task.saved c.task.saved c.task.just_moved r) (λ u z. heard-sound RestoreNow s u c e z) tt

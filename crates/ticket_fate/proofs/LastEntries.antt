@@ -220,6 +220,7 @@ module _ (g : Plan) (t : ℕ) (k : Ticket) (x : Session) (a : IsAccepted (g.requ
           };
           absent = λ b. absurd (here b);
           since = subst (λ y. k.since ≤ y.clears) (sym v) s.since;
+          before = s.before;
         });
         plain = w.unit ∙ ap (λ l. (run_log g.requests (opening g (unit_of g t)) l).unit) (sym log);
       }
@@ -264,6 +265,7 @@ module _ (g : Plan) (t : ℕ) (k : Ticket) (x : Session) (a : IsAccepted (g.requ
           );
           absent = λ b. absurd (here b);
           since = subst (λ y. k.since ≤ y.clears) (sym v) s.since;
+          before = s.before;
         };
         plain = p ∙ sym (ap (λ y. y.unit) push);
       })

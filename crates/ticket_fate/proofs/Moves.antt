@@ -1,8 +1,12 @@
 -- Every move keeps what holds of the tickets and the targets.
-use Rattle.std.proofs.Common.{◌≡◌, ◌≢◌, ℕ, ◌<◌, List, refl, ap, sym, ◌∙◌, subst, Some, ◌⊎◌, inl, inr, nat_eq}
-use Rattle.rig_types.specs.declared.report.Outcome.TheVariants.{Done, Cut}
+use Rattle.std.proofs.Common.{◌≡◌, ◌≢◌, ℕ, ◌+◌, ◌-◌, ◌<◌, Bool, List, refl, ap, arith, sym, ◌∙◌, subst, Some, ◌⊎◌, inl, inr, nat_eq}
+use Rattle.rig_types.specs.declared.report.Outcome.{Outcome}
+use Rattle.rig_types.specs.declared.report.Outcome.TheVariants.{Done, Cut, Reset, NoTarget, Broken}
+use Rattle.rig_types.specs.declared.report.Report.{Report}
+use Rattle.unit_law.specs.Report.{Setting, By}
+use Rattle.logs_have_room.specs.Room.{entries}
 use Rattle.unit_law.specs.declared.entry.LogEntry.{LogEntry}
-use Rattle.unit_law.specs.Log.{with_at}
+use Rattle.unit_law.specs.Log.{View, with_at}
 use Rattle.unit_law.proofs.Views.{with_at-same, with_at-other, same_or_not, ne-test, eq-test}
 use Rattle.target_law.specs.declared.moves.Move.{Move}
 use Rattle.target_law.specs.declared.showing.Showing.{Showing}
@@ -12,15 +16,15 @@ use Rattle.target_law.specs.declared.showing.Note.{Note}
 use Rattle.target_law.specs.declared.showing.Note.TheVariants.{Name, Complete, SaveThenLeave, SaveNow, RestoreNow, LeaveNow}
 use Rattle.target_law.specs.declared.showing.Verdict.{Verdict}
 use Rattle.target_law.specs.declared.showing.Verdict.TheVariants.{Answered as HasAnswered, Refused}
-use Rattle.unit_law.specs.Request.{command}
+use Rattle.unit_law.specs.Request.{PlainRequest, command}
 use Rattle.ticket_fate.proofs.TaskLists.{away-at}
 use Rattle.ticket_fate.proofs.Choices.{follows}
 use Rattle.target_law.specs.Session.{Session, acted, began}
 use Rattle.target_law.specs.Bytes.{Connection, sent_by, heard_by}
 use Rattle.target_law.specs.Target.{LogicalUnit, Link, Free, Greeted, Commanded, Working, Straying, Target, unit_at, session, linked, parted, target_reset, goes_on}
 use Rattle.target_law.specs.Calls.{target_acted, acted_by, begun, has_ended, task_reselected}
-use Rattle.ticket_fate.specs.Tickets.{Plan, unit_of, Life, Unbuilt, Built, Linked, ToRequeue, Waits, Selected, Connected, Away, Lost, Rejected, Finished, Checked, Asks, AskStarts, AskConnected, AskLost, Asked, AtRogue, Ended, Unlinked, Freed, Ticket, view_for}
-use Rattle.ticket_fate.specs.Fates.{TicketKept}
+use Rattle.ticket_fate.specs.Tickets.{Plan, unit_of, Life, Unbuilt, Built, Linked, ToRequeue, Waits, Selected, Connected, Away, Lost, Rejected, Finished, Checked, Asks, AskStarts, AskConnected, AskLost, Asked, AtRogue, Ended, Unlinked, Freed, Ticket, setting, course_at, freed_ticket, view_for}
+use Rattle.ticket_fate.specs.Fates.{ReportFits, FreedReportFits, TicketKept}
 use Rattle.ticket_fate.specs.Linked.{IsPlan, UnitKept, LinkKept, TargetKept, reset_tickets, reset_ticket, lost_life}
 use Rattle.ticket_fate.specs.Moves.{CompletesTicket, parts_ticket, TicketMove, builds, links, queues, requeues, selects, times_out, cancels, takes_again, takes_refused, takes, sweeps, unlinks, frees, IsIdle, target_of, pointed_ticket, marked_ticket, Moves, alone, points, marks, relinks, acts, sends, receives, hears, leaves_bus, completes, drops_task, reselects, begins, resets_idle, resets_work}
 use Rattle.ticket_fate.specs.Kept.{AtLink, AllKept}
@@ -30,6 +34,27 @@ use Rattle.ticket_fate.proofs.Calls.{unit-ticket-changed, again, byte-in, byte-o
 use Rattle.ticket_fate.proofs.TaskEnds.{leaves-kept, ends-kept, drops-kept, reselects as reselect-kept, begins as begin-kept, begin-link}
 use Rattle.ticket_fate.proofs.Marks.{unit-same-life, marked-kept}
 use Rattle.ticket_fate.proofs.Resets.{idle-reset, work-reset, link-agrees, unit-agrees}
+
+-- how many entries lie outside a ticket's life is no matter of the cases
+by-outside : (o : Outcome) (s : Setting) (r : PlainRequest) (v : View) (m b : Bool) (clears few many : ℕ) (q : Report) → By o s r v (course_at m clears b few) q → By o s r v (course_at m clears b many) q
+by-outside Done s r v m b clears few many q h = h
+by-outside Cut s r v m b clears few many q h = h
+by-outside Reset s r v m b clears few many q h = h
+by-outside NoTarget s r v m b clears few many q h = h
+by-outside Broken s r v m b clears few many q h = h
+
+-- at the Free no entry has come after it
+freed-fits : (g : Plan) (t : ℕ) (k : Ticket) (v : View) (o : Outcome) → k.before ≡ 0 → ReportFits g t k v o → FreedReportFits g t (freed_ticket k o v.tally) v o
+freed-fits g t k v o none f = λ rogue.
+    let h = f rogue in
+    record {
+      by = by-outside o (setting g (unit_of g t)) (g.requests t) v k.marked k.bus_reset (v.tally.clears - k.since) 0 (k.before + (entries v.tally - entries v.tally)) _ h.by;
+      ticket = refl;
+      of_unit = refl;
+      few_tries = h.few_tries;
+      all_within = omega (arith, none);
+      all_caused = refl;
+    }
 
 -- a step of a ticket by itself
 stands-on : (g : Plan) (x : ℕ) (k : Ticket) (log : List LogEntry) (j : Ticket) → TicketMove g x (view_for g x log) k j → TicketKept g x k log → TicketKept g x j log
@@ -42,10 +67,10 @@ stands-on g x k log j (times_out e f) s = absent-kept g x k log s e f
 stands-on g x k log j (cancels e f) s = cancelled-kept g x k log s e f
 stands-on g x k log j (takes_again st e f) s = requeue-kept g x k log s st e f
 stands-on g x k log j (takes_refused st e f) s = refused-kept g x k log s st e f
-stands-on g x k log j (takes o e) s = record { fate = fate_at g x k log (Finished o) s e; absent = λ a. ((s.absent a).0, tt); since = s.since }
-stands-on g x k log j (sweeps e) s = record { fate = fate_at g x k log Lost s e; absent = λ a. ((s.absent a).0, tt); since = s.since }
-stands-on g x k log j (unlinks o e) s = record { fate = fate_at g x k log (Ended o) s e; absent = λ a. ((s.absent a).0, tt); since = s.since }
-stands-on g x k log j (frees o e) s = record { fate = fate_at g x k log (Unlinked o) s e; absent = λ a. ((s.absent a).0, tt); since = s.since }
+stands-on g x k log j (takes o e) s = record { fate = fate_at g x k log (Finished o) s e; absent = λ a. ((s.absent a).0, tt); since = s.since; before = s.before }
+stands-on g x k log j (sweeps e) s = record { fate = fate_at g x k log Lost s e; absent = λ a. ((s.absent a).0, tt); since = s.since; before = s.before }
+stands-on g x k log j (unlinks o e) s = record { fate = fate_at g x k log (Ended o) s e; absent = λ a. ((s.absent a).0, tt); since = s.since; before = s.before }
+stands-on g x k log j (frees o e) s = record { fate = freed-fits g x k (view_for g x log) o s.before (fate_at g x k log (Unlinked o) s e); absent = λ a. ((s.absent a).0, tt); since = s.since; before = s.before }
 
 -- neither before nor after it has a task
 abbrev NoTask : Life → Type 0
@@ -197,7 +222,7 @@ module _ (g : Plan) (count : ℕ) (plan : IsPlan g count) (ks : ℕ → Ticket) 
 
   points-keep : (x lastp savep : ℕ) → (ks x).life ≡ Connected → AllKept g count (with_at ks x (pointed_ticket (ks x) lastp savep)) ts
   points-keep x lastp savep e = ticket-changed x (pointed_ticket (ks x) lastp savep)
-      (λ v there kept. unit-ticket-changed g ks x (pointed_ticket (ks x) lastp savep) v (λ a. apart (sym e ∙ a)) (λ a. apart (sym e ∙ a)) (again g x (ks x) (pointed_ticket (ks x) lastp savep) v.log e e refl (kept.each x refl) (λ r. r)) kept)
+      (λ v there kept. unit-ticket-changed g ks x (pointed_ticket (ks x) lastp savep) v (λ a. apart (sym e ∙ a)) (λ a. apart (sym e ∙ a)) (again g x (ks x) (pointed_ticket (ks x) lastp savep) v.log e e (refl, refl) (kept.each x refl) (λ r. r)) kept)
       (λ f. (f, refl)) (λ f. f)
     where
       apart : Connected ≡ Away → ⊥

@@ -23,7 +23,7 @@ kept-by g count plan ks ts h ns us (more {ms = ms} {us = vs} r m) = keeps g coun
 pub all-kept : (g : Plan) (count : ℕ) (ns : ℕ → Ticket) (us : ℕ → Target) → Reached g count ns us → AllKept g count ns us
 all-kept g count ns us r =
     let o = r.from.2 in
-    kept-by g count r.plan r.from.0 r.from.1 (opens g count r.from.0 r.from.1 o.unbuilt o.unqueued o.free o.units) ns us r.from.3
+    kept-by g count r.plan r.from.0 r.from.1 (opens g count r.from.0 r.from.1 o.unbuilt o.unqueued o.unlogged o.free o.units) ns us r.from.3
 
 pub reports-fit : ReportsFit
 reports-fit g count ns us r x o e =

@@ -18,6 +18,7 @@ use Rattle.target_law.specs.Session.{Task}
 use Rattle.target_law.specs.Bytes.{Connection, away}
 use Rattle.target_law.specs.Sound.{IsWaiting}
 use Rattle.target_law.specs.Target.{LogicalUnit, Link, Free, Greeted, Commanded, Working, Straying, Target, flat, unit_at, drops, drops_by, unit_reset, slot_reset, parted, target_reset, leaves, unit_left}
+use Rattle.logs_have_room.specs.Room.{entries}
 use Rattle.ticket_fate.specs.Tickets.{Plan, unit_of, opening, setting, Life, Unbuilt, Built, Linked, ToRequeue, Waits, Selected, Connected, Away, Lost, Rejected, Finished, Checked, Asks, AskStarts, AskConnected, AskLost, Asked, AtRogue, Ended, Unlinked, Freed, Ticket, with_life, course_at, report_of, view_for}
 use Rattle.ticket_fate.specs.Fates.{OnlyRefusals, AllRefused, HasTask, ReportFits, FreedReportFits, Fate, NeedsNone, TicketKept}
 use Rattle.ticket_fate.specs.Moves.{parts_ticket}
@@ -124,13 +125,14 @@ view-clear g x log =
 loss-more : (r : PlainRequest) (v : View) (q : Report) → ByLoss r v q → ByLoss r (more v) q
 loss-more r v q h = record { no_end = h.no_end; lost = h.lost; tries = h.tries; status = h.status; residual = h.residual; bytes = h.bytes }
 
-by-more : (o : Outcome) (s : Setting) (r : PlainRequest) (v : View) (m b : Bool) (few many : ℕ) (q : Report) → few ≤ many → By o s r v (course_at m few b) q → By o s r (more v) (course_at m many b) q
-by-more Done s r v m b few many q l (inl h) = inl (record { one_end = h.one_end; no_drop = h.no_drop; tries = h.tries; given = h.given })
-by-more Done s r v m b few many q l (inr h) =
+by-more : (o : Outcome) (s : Setting) (r : PlainRequest) (v : View) (m b : Bool) (few many outside : ℕ) (q : Report) → few ≤ many → By o s r v (course_at m few b outside) q
+    → By o s r (more v) (course_at m many b outside) q
+by-more Done s r v m b few many outside q l (inl h) = inl (record { one_end = h.one_end; no_drop = h.no_drop; tries = h.tries; given = h.given })
+by-more Done s r v m b few many outside q l (inr h) =
     inr (record { no_look = h.no_look; no_end = h.no_end; no_drop = h.no_drop; no_sense = h.no_sense; tries = h.tries; all_tries = h.all_tries; status = h.status; residual = h.residual; bytes = h.bytes })
-by-more Cut s r v m b few many q l h = (loss-more r v q h.0, h.1)
-by-more Reset s r v m b few many q l h = (loss-more r v q h.0, omega (arith, h.1))
-by-more NoTarget s r v m b few many q l h = record {
+by-more Cut s r v m b few many outside q l h = (loss-more r v q h.0, h.1)
+by-more Reset s r v m b few many outside q l h = (loss-more r v q h.0, omega (arith, h.1))
+by-more NoTarget s r v m b few many outside q l h = record {
   absent = h.absent;
   no_refusal = h.no_refusal;
   no_look = h.no_look;
@@ -142,28 +144,28 @@ by-more NoTarget s r v m b few many q l h = record {
   residual = h.residual;
   bytes = h.bytes;
 }
-by-more Broken s r v m b few many q l h = h
+by-more Broken s r v m b few many outside q l h = h
 
 -- a report that fits still fits after one more Clear, with as many Clears in its history or more
-fits-more : (g : Plan) (t : ℕ) (k : Ticket) (v : View) (o : Outcome) (few many : ℕ) → few ≤ many
-    → Fits (setting g (unit_of g t)) t (g.requests t) v (course_at k.marked few k.bus_reset) (report_of t (g.requests t) k.status k.lastp k.tries k.buffer [] o)
-    → Fits (setting g (unit_of g t)) t (g.requests t) (more v) (course_at k.marked many k.bus_reset) (report_of t (g.requests t) k.status k.lastp k.tries k.buffer [] o)
-fits-more g t k v o few many l f = λ rogue.
+fits-more : (g : Plan) (t : ℕ) (k : Ticket) (v : View) (o : Outcome) (few many outside : ℕ) → few ≤ many
+    → Fits (setting g (unit_of g t)) t (g.requests t) v (course_at k.marked few k.bus_reset outside) (report_of t (g.requests t) k.status k.lastp k.tries k.buffer [] o)
+    → Fits (setting g (unit_of g t)) t (g.requests t) (more v) (course_at k.marked many k.bus_reset outside) (report_of t (g.requests t) k.status k.lastp k.tries k.buffer [] o)
+fits-more g t k v o few many outside l f = λ rogue.
     let h = f rogue in
     record {
-      by = by-more o (setting g (unit_of g t)) (g.requests t) v k.marked k.bus_reset few many _ l h.by;
+      by = by-more o (setting g (unit_of g t)) (g.requests t) v k.marked k.bus_reset few many outside _ l h.by;
       ticket = refl;
       of_unit = refl;
       few_tries = h.few_tries;
-      all_within = refl;
+      all_within = h.all_within;
       all_caused = refl;
     }
 
 report-more : (g : Plan) (t : ℕ) (k : Ticket) (v : View) (o : Outcome) → ReportFits g t k v o → ReportFits g t k (more v) o
-report-more g t k v o f = fits-more g t k v o (v.tally.clears - k.since) (v.tally.clears + 1 - k.since) (omega arith) f
+report-more g t k v o f = fits-more g t k v o (v.tally.clears - k.since) (v.tally.clears + 1 - k.since) 0 (omega arith) f
 
 freed-more : (g : Plan) (t : ℕ) (k : Ticket) (v : View) (o : Outcome) → FreedReportFits g t k v o → FreedReportFits g t k (more v) o
-freed-more g t k v o f = fits-more g t k v o k.clears k.clears (omega arith) f
+freed-more g t k v o f = fits-more g t k v o k.clears k.clears (k.before + (entries v.tally - k.logged)) (omega arith) f
 
 refusals-more : (v : View) (n : ℕ) → OnlyRefusals v n → OnlyRefusals (more v) n
 refusals-more v n q = record { refusals = q.refusals; looks = q.looks; ends = q.ends; drops = q.drops; high = q.high; senses = q.senses; answer = q.answer }
@@ -329,6 +331,7 @@ module _ (g : Plan) (n : ℕ) (tickets : ℕ → Ticket) (u : LogicalUnit) (h : 
         }));
         absent = λ a. absurd (needs g x k u.log Away s away (λ z. z) a);
         since = subst (λ z. k.since ≤ z.tally.clears) (sym v) (let since = s.since in omega arith);
+        before = s.before;
       }
   reset-at x e (inr d) =
       let s = h.each x e in
@@ -339,6 +342,7 @@ module _ (g : Plan) (n : ℕ) (tickets : ℕ → Ticket) (u : LogicalUnit) (h : 
         fate = subst (Fate g x (lost_life k.life) (with_life k (lost_life k.life))) (sym v) (fate-more g x k.life k (view_for g x log) (none x e) d y.since y.fate);
         absent = λ a. let z = y.absent a in (ap (λ m. m.tally.refusals) v ∙ z.0, needs-lost k.life z.1);
         since = subst (λ z. k.since ≤ z.tally.clears) (sym v) (let since = y.since in omega arith);
+        before = y.before;
       }
 
   -- the tickets of the unit are reset by some function that resets each of them
@@ -431,6 +435,7 @@ module _ (g : Plan) (count : ℕ) (plan : IsPlan g count) (i : ℕ) (tickets : �
           fate = (pointed g.retries (g.requests c.task.ticket) _ _ _ c.task (view_for g c.task.ticket u.log) c.task.saved c.task.saved false q, refl, refl);
           absent = λ a. absurd (needs g c.task.ticket (tickets c.task.ticket) u.log Connected (unit.each c.task.ticket refl) w.life (λ z. z) a);
           since = (unit.each c.task.ticket refl).since;
+          before = (unit.each c.task.ticket refl).before;
         };
         rig = refl;
         plain = unit.plain;

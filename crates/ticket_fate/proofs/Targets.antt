@@ -161,6 +161,7 @@ follow-kept g x k s y e h f = record {
   fate = subst (λ l. Fate g x l (record k { task = y.task }) (view_for g x y.log)) (sym e) f.runs;
   absent = λ a. absurd (needs g x k s.log Connected h e (λ z. z) a);
   since = subst (λ n. k.since ≤ n) (sym f.clears) h.since;
+  before = h.before;
 }
 
 -- what a choice shows

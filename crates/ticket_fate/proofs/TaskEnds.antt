@@ -75,6 +75,7 @@ module _ (g : Plan) (count : ℕ) (plan : IsPlan g count) (i : ℕ) (tickets : �
           fate = (pointed g.retries (g.requests c.task.ticket) own.tag own.tries own.buffer c.task (view_for g c.task.ticket u.log) c.task.saved c.task.saved false q, saves, refl);
           absent = λ a. absurd (needs g c.task.ticket own u.log Connected (unit.each c.task.ticket refl) w.life (λ z. z) a);
           since = (unit.each c.task.ticket refl).since;
+          before = (unit.each c.task.ticket refl).before;
         };
         rig = refl;
         plain = unit.plain;
@@ -131,6 +132,7 @@ module _ (g : Plan) (count : ℕ) (plan : IsPlan g count) (i : ℕ) (tickets : �
           };
           absent = λ a. absurd (needs g c.task.ticket own u.log Connected (unit.each c.task.ticket refl) w.life (λ z. z) a);
           since = subst (λ y. own.since ≤ y.clears) (sym v) (unit.each c.task.ticket refl).since;
+          before = (unit.each c.task.ticket refl).before;
         };
         rig = refl;
         plain = drop-plain g c.task.ticket own c.task u.log q u.plain unit.plain;
@@ -163,6 +165,7 @@ module _ (g : Plan) (count : ℕ) (plan : IsPlan g count) (i : ℕ) (tickets : �
           fate = subst (λ z. HasTask g.retries (g.requests k.ticket) old.tag old.tries old.buffer z (view_for g k.ticket u.log)) a.task f.0;
           absent = λ z. absurd (needs g k.ticket old u.log Away s a.life (λ y. y) z);
           since = s.since;
+          before = s.before;
         };
         rig = refl;
         plain = subst (λ z. u.plain ≡ (run_log g.requests (opening g z) u.log).unit) (sym same) unit.plain;
@@ -262,6 +265,7 @@ module _ (g : Plan) (count : ℕ) (plan : IsPlan g count) (i : ℕ) (tickets : �
                     };
                     absent = λ z. absurd (needs g x old v.log Selected (kept2.each x refl) life (λ y. y) z);
                     since = (kept2.each x refl).since;
+                    before = (kept2.each x refl).before;
                   };
               rig = refl;
               plain = kept2.plain;

@@ -12,6 +12,7 @@ use Rattle.unit_law.specs.Request.{PlainRequest}
 use Rattle.unit_law.specs.Log.{View}
 use Rattle.unit_law.specs.Report.{ByLoss, filled, holding, data_of, no_status}
 use Rattle.unit_law.proofs.Views.{ne-test}
+use Rattle.logs_have_room.specs.Room.{entries}
 use Rattle.ticket_fate.specs.Tickets.{Plan, unit_of, Life, Unbuilt, Built, Linked, ToRequeue, Waits, Selected, Rejected, Finished, Ended, Ticket, with_life, report_of, view_for, built_ticket, queued_ticket}
 use Rattle.ticket_fate.specs.Fates.{OnlyRefusals, Queued, AllRefused, Fate, TicketKept, NeedsNone}
 
@@ -41,19 +42,20 @@ module _ (g : Plan) (t : ℕ) (k : Ticket) (log : List LogEntry) (s : TicketKept
   abbrev r : PlainRequest
   r = g.requests t
 
-  pub built-kept : (tag : ℕ) → k.life ≡ Unbuilt → TicketKept g t (built_ticket (g.requests t) tag k) log
+  pub built-kept : (tag : ℕ) → k.life ≡ Unbuilt → TicketKept g t (built_ticket (g.requests t) tag (entries (view_for g t log).tally) k) log
   built-kept tag e =
       let f = fate_at g t k log Unbuilt s e in
-      record { fate = (refl, record { entries = f; holds = refl }); absent = λ a. ((s.absent a).0, tt); since = omega arith }
+      record { fate = (refl, record { entries = f; holds = refl }); absent = λ a. ((s.absent a).0, tt); since = omega arith; before = omega (arith, f.refusals, f.looks, f.ends, f.drops, f.senses) }
 
   pub linked-kept : k.life ≡ Built → TicketKept g t (with_life k Linked) log
-  linked-kept e = record { fate = fate_at g t k log Built s e; absent = λ a. ((s.absent a).0, tt); since = s.since }
+  linked-kept e = record { fate = fate_at g t k log Built s e; absent = λ a. ((s.absent a).0, tt); since = s.since; before = s.before }
 
   waits : (since : ℕ) → k.tries ≤ g.retries → since ≤ v.tally.clears → AllRefused r k.tries k.buffer v → TicketKept g t (queued_ticket k since) log
   waits since few le f = record {
     fate = record { entries = recount v k.tries f.entries; tried = ap (λ n. n + 1) (sym f.entries.refusals); most = omega arith; holds = f.holds; last = refl; saves = refl };
     absent = λ a. ((s.absent a).0, tt);
     since = le;
+    before = s.before;
   }
 
   pub queued-kept : k.life ≡ Linked → TicketKept g t (queued_ticket k (view_for g t log).tally.clears) log
@@ -79,10 +81,11 @@ module _ (g : Plan) (t : ℕ) (k : Ticket) (log : List LogEntry) (s : TicketKept
         fate = λ rogue. record { by = (loss q (report_of t r k.status k.lastp k.tries k.buffer [] Cut) refl refl refl refl, m); ticket = refl; of_unit = refl; few_tries = q.most; all_within = refl; all_caused = refl };
         absent = λ a. ((s.absent a).0, tt);
         since = s.since;
+        before = s.before;
       }
 
   pub selected-kept : k.life ≡ Waits → (g.units (unit_of g t)).absent ≡ false → TicketKept g t (with_life k Selected) log
-  selected-kept e f = record { fate = fate_at g t k log Waits s e; absent = λ a. cc; since = s.since }
+  selected-kept e f = record { fate = fate_at g t k log Waits s e; absent = λ a. cc; since = s.since; before = s.before }
 
   pub absent-kept : k.life ≡ Waits → (g.units (unit_of g t)).absent ≡ true → TicketKept g t (with_life k (Finished NoTarget)) log
   absent-kept e a =
@@ -110,10 +113,11 @@ module _ (g : Plan) (t : ℕ) (k : Ticket) (log : List LogEntry) (s : TicketKept
         };
         absent = λ b. (z, tt);
         since = s.since;
+        before = s.before;
       }
 
   pub requeue-kept : (st : Status) → k.life ≡ Rejected st → k.tries ≤ g.retries → TicketKept g t (with_life k ToRequeue) log
-  requeue-kept st e m = let f = fate_at g t k log (Rejected st) s e in record { fate = (m, f.4); absent = λ a. ((s.absent a).0, tt); since = s.since }
+  requeue-kept st e m = let f = fate_at g t k log (Rejected st) s e in record { fate = (m, f.4); absent = λ a. ((s.absent a).0, tt); since = s.since; before = s.before }
 
   pub refused-kept : (st : Status) → k.life ≡ Rejected st → g.retries < k.tries → TicketKept g t (with_life k (Ended Done)) log
   refused-kept st e m =
@@ -140,4 +144,5 @@ module _ (g : Plan) (t : ℕ) (k : Ticket) (log : List LogEntry) (s : TicketKept
         };
         absent = λ a. ((s.absent a).0, tt);
         since = s.since;
+        before = s.before;
       }

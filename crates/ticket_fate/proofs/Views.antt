@@ -32,6 +32,7 @@ view-kept g x k old new e s = record {
   fate = subst (Fate g x k.life k) (sym e) s.fate;
   absent = λ a. let h = s.absent a in (ap (λ v. v.tally.refusals) e ∙ h.0, h.1);
   since = subst (λ v. k.since ≤ v.tally.clears) (sym e) s.since;
+  before = s.before;
 }
 
 -- the tickets of a unit

@@ -1,5 +1,5 @@
 -- What holds of one ticket and of its unit's log, by where the ticket is in its life. Source: own.
-use Rattle.std.specs.Prelude.{◌≡◌, ℕ, ◌+◌, ◌≤◌, true, false, List, [], take, Some, None}
+use Rattle.std.specs.Prelude.{◌≡◌, ℕ, ◌+◌, ◌-◌, ◌≤◌, true, false, List, [], take, Some, None}
 use Rattle.scsi_words.specs.declared.phases.kinds.Direction.TheVariants.{Out}
 use Rattle.scsi_words.specs.declared.statuses.kinds.Status.TheVariants.{Good}
 use Rattle.scsi_words.specs.Statuses.{status_code}
@@ -11,6 +11,7 @@ use Rattle.unit_law.specs.Request.{PlainRequest, command, received_of}
 use Rattle.unit_law.specs.Log.{View}
 use Rattle.unit_law.specs.Report.{Fits, EndedInCheck, holding, data_of}
 use Rattle.target_law.specs.Session.{Task}
+use Rattle.logs_have_room.specs.Room.{entries}
 use Rattle.ticket_fate.specs.Tickets.{Plan, unit_of, setting, Life, Unbuilt, Built, Linked, ToRequeue, Waits, Selected, Connected, Away, Lost, Rejected, Finished, Checked, Asks, AskStarts, AskConnected, AskLost, Asked, AtRogue, Ended, Unlinked, Freed, Ticket, course_at, course_of, report_of, view_for}
 
 -- the log has nothing of it but n refusals
@@ -60,9 +61,9 @@ pub record HasTask (retries : ℕ) (r : PlainRequest) (named tries : ℕ) (buffe
 abbrev pub ReportFits : Plan → ℕ → Ticket → View → Outcome → Type 0
 ReportFits g t k v o = Fits (setting g (unit_of g t)) t (g.requests t) v (course_of k.marked k.since k.bus_reset v) (report_of t (g.requests t) k.status k.lastp k.tries k.buffer [] o)
 
--- after its Free, with the history that was fixed then
+-- after its Free, with the history that was fixed then, and whatever was logged of it since
 abbrev pub FreedReportFits : Plan → ℕ → Ticket → View → Outcome → Type 0
-FreedReportFits g t k v o = Fits (setting g (unit_of g t)) t (g.requests t) v (course_at k.marked k.clears k.bus_reset) (report_of t (g.requests t) k.status k.lastp k.tries k.buffer [] o)
+FreedReportFits g t k v o = Fits (setting g (unit_of g t)) t (g.requests t) v (course_at k.marked k.clears k.bus_reset (k.before + (entries v.tally - k.logged))) (report_of t (g.requests t) k.status k.lastp k.tries k.buffer [] o)
 
 abbrev pub FitsInCheck : Plan → ℕ → Ticket → View → Type 0
 FitsInCheck g t k v = ReportFits g t k v Done × EndedInCheck v
@@ -104,3 +105,4 @@ pub record TicketKept (g : Plan) (t : ℕ) (k : Ticket) (log : List LogEntry) : 
   pub fate : Fate g t k.life k (view_for g t log)
   pub absent : (g.units (unit_of g t)).absent ≡ true → ((view_for g t log).tally.refusals ≡ 0) × NeedsNone k.life
   pub since : k.since ≤ (view_for g t log).tally.clears
+  pub before : k.before ≡ 0

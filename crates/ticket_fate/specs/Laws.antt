@@ -13,6 +13,7 @@ use Rattle.ticket_fate.specs.Moves.{Moves, target_of}
 pub record Opens (g : Plan) (count : ℕ) (ks : ℕ → Ticket) (ts : ℕ → Target) : Type 0 where
   pub unbuilt : (x : ℕ) → (ks x).life ≡ Unbuilt
   pub unqueued : (x : ℕ) → (ks x).since ≡ 0
+  pub unlogged : (x : ℕ) → (ks x).before ≡ 0
   pub free : (i : ℕ) → (ts i).link ≡ Free
   pub units : (n : ℕ) → n < count → unit_at (ts (g.units n).target).units (g.units n).lun ≡ Some (unit_opened (g.units n))
 

@@ -18,6 +18,7 @@ use Rattle.target_law.specs.Session.{Task, Session, Can, acted, closed, began}
 use Rattle.target_law.specs.Bytes.{Connection, byte_by, sent_by, took_by, heard_by, away}
 use Rattle.target_law.specs.Target.{LogicalUnit, Link, Free, Greeted, Commanded, Working, Straying, Target, unit_at, with_unit, session, linked, ends, leaves, drops, target_reset}
 use Rattle.target_law.specs.Calls.{target_acted, task_reselected, begun, has_ended}
+use Rattle.logs_have_room.specs.Room.{entries}
 use Rattle.ticket_fate.specs.Tickets.{Plan, unit_of, Life, Unbuilt, Built, Linked, ToRequeue, Waits, Selected, Connected, Away, Lost, Rejected, Finished, Checked, Asks, AskStarts, AskConnected, AskLost, Asked, Ended, Unlinked, Freed, Ticket, with_life, built_ticket, queued_ticket, freed_ticket, ticket_sent, view_for}
 use Rattle.ticket_fate.specs.Linked.{reset_tickets}
 
@@ -32,7 +33,7 @@ parts_ticket tickets c = record (tickets c.task.ticket) { life = Away; task = aw
 
 -- a step of one ticket by itself
 pub data TicketMove (g : Plan) (x : ℕ) (v : View) : Ticket → Ticket → Type 0 where
-  builds : {k : Ticket} (tag : ℕ) → k.life ≡ Unbuilt → TicketMove g x v k (built_ticket (g.requests x) tag k)
+  builds : {k : Ticket} (tag : ℕ) → k.life ≡ Unbuilt → TicketMove g x v k (built_ticket (g.requests x) tag (entries v.tally) k)
   links : {k : Ticket} → k.life ≡ Built → TicketMove g x v k (with_life k Linked)
   queues : {k : Ticket} → k.life ≡ Linked → TicketMove g x v k (queued_ticket k v.tally.clears)
   requeues : {k : Ticket} → k.life ≡ ToRequeue → TicketMove g x v k (queued_ticket k k.since)
@@ -44,7 +45,7 @@ pub data TicketMove (g : Plan) (x : ℕ) (v : View) : Ticket → Ticket → Type
   takes : {k : Ticket} (o : Outcome) → k.life ≡ Finished o → TicketMove g x v k (with_life k (Ended o))
   sweeps : {k : Ticket} → k.life ≡ Lost → TicketMove g x v k (with_life k (Ended Reset))
   unlinks : {k : Ticket} (o : Outcome) → k.life ≡ Ended o → TicketMove g x v k (with_life k (Unlinked o))
-  frees : {k : Ticket} (o : Outcome) → k.life ≡ Unlinked o → TicketMove g x v k (freed_ticket k o v.tally.clears)
+  frees : {k : Ticket} (o : Outcome) → k.life ≡ Unlinked o → TicketMove g x v k (freed_ticket k o v.tally)
 
 -- a connected ticket's pointers are written, at any value: the points of the chip say which
 abbrev pub pointed_ticket : Ticket → (lastp savep : ℕ) → Ticket

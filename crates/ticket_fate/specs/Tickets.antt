@@ -11,8 +11,9 @@ use Rattle.rig_types.specs.declared.report.Report.{Report}
 use Rattle.plain_lun.specs.Unit.{Plain, opened}
 use Rattle.unit_law.specs.declared.entry.LogEntry.{LogEntry}
 use Rattle.unit_law.specs.Request.{PlainRequest, command}
-use Rattle.unit_law.specs.Log.{View, view_of}
+use Rattle.unit_law.specs.Log.{Tally, View, view_of}
 use Rattle.unit_law.specs.Report.{Setting, Course, no_status}
+use Rattle.logs_have_room.specs.Room.{entries}
 use Rattle.target_law.specs.declared.showing.Showing.{Showing}
 use Rattle.target_law.specs.declared.showing.Showing.TheVariants.{Sending, Telling}
 use Rattle.target_law.specs.Session.{Task}
@@ -71,8 +72,8 @@ pub data Life : Type 0 where
 
 -- A ticket: its tag; the status byte of its first end; how much of the buffer lies before the active and the saved data pointer; the buffer, the
 -- sense area and the sense of its report; whether an abort of it answered Marked; how often it was queued; how many Clears its unit's log had
--- when it was first queued, and how many came from then to its Free; whether the bus was reset between its End and its Free; and its task,
--- where it has one
+-- when it was first queued, and how many came from then to its Free; how many entries its log had of it at its Build, and at its Free; whether the
+-- bus was reset between its End and its Free; and its task, where it has one
 pub record Ticket : Type 0 where
   pub life : Life
   pub tag : ℕ
@@ -86,19 +87,21 @@ pub record Ticket : Type 0 where
   pub tries : ℕ
   pub since : ℕ
   pub clears : ℕ
+  pub before : ℕ
+  pub logged : ℕ
   pub bus_reset : Bool
   pub task : Task
 
 abbrev pub with_life : Ticket → Life → Ticket
 with_life k l = record k { life = l }
 
--- the history of a ticket after so many Clears; of the causes of Clears, and of entries outside a ticket's life, nothing is said here
-abbrev pub course_at : (marked : Bool) → (clears : ℕ) → (bus_reset : Bool) → Course
-course_at marked clears bus_reset = record { marked = marked; clears = clears; bus_reset = bus_reset; outside = 0; stray_clears = 0 }
+-- the history of a ticket with so many Clears, and so many of its entries outside its life; of the causes of Clears nothing is said here
+abbrev pub course_at : (marked : Bool) → (clears : ℕ) → (bus_reset : Bool) → (outside : ℕ) → Course
+course_at marked clears bus_reset outside = record { marked = marked; clears = clears; bus_reset = bus_reset; outside = outside; stray_clears = 0 }
 
 -- the history so far, before its Free
 abbrev pub course_of : (marked : Bool) → (since : ℕ) → (bus_reset : Bool) → View → Course
-course_of marked since bus_reset v = course_at marked (v.tally.clears - since) bus_reset
+course_of marked since bus_reset v = course_at marked (v.tally.clears - since) bus_reset 0
 
 -- what a report says of an outcome
 abbrev pub status_for : Outcome → ℕ → ℕ
@@ -124,8 +127,8 @@ report_of t r status lastp tries bytes sense o = record {
 abbrev pub view_for : Plan → ℕ → List LogEntry → View
 view_for g t log = view_of g.requests (opening g (unit_of g t)) log t
 
-abbrev pub built_ticket : PlainRequest → (tag : ℕ) → Ticket → Ticket
-built_ticket r tag k = record k { life = Built; tag = tag; status = no_status; lastp = 0; savep = 0; buffer = r.bytes; area = []; sense = []; marked = false; tries = 0; since = 0; clears = 0; bus_reset = false }
+abbrev pub built_ticket : PlainRequest → (tag before : ℕ) → Ticket → Ticket
+built_ticket r tag before k = record k { life = Built; tag = tag; status = no_status; lastp = 0; savep = 0; buffer = r.bytes; area = []; sense = []; marked = false; tries = 0; since = 0; clears = 0; before = before; logged = 0; bus_reset = false }
 
 -- it goes into the start ring; at the first time the Clears so far are noted
 abbrev pub queued_ticket : Ticket → ℕ → Ticket
@@ -137,6 +140,6 @@ ticket_sent (Sending n) at b k x = record k { buffer = put k.buffer at b; task =
 ticket_sent (Telling v) at b k x = record k { status = b; task = x }
 ticket_sent _ at b k x = record k { task = x }
 
--- its Free fixes the number of Clears in its history
-abbrev pub freed_ticket : Ticket → Outcome → (clears : ℕ) → Ticket
-freed_ticket k o clears = record k { life = Freed o; clears = clears - k.since }
+-- its Free fixes its history
+abbrev pub freed_ticket : Ticket → Outcome → Tally → Ticket
+freed_ticket k o n = record k { life = Freed o; clears = n.clears - k.since; logged = entries n }
