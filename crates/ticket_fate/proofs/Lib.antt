@@ -1,0 +1,16 @@
+pub mod Views
+pub mod TicketSteps
+pub mod ReceivedBytes
+pub mod Choices
+pub mod Buffers
+pub mod DataBytes
+pub mod LastEntries
+pub mod TaskLists
+pub mod SoundSessions
+pub mod Targets
+pub mod Calls
+pub mod TaskEnds
+pub mod Resets
+pub mod Moves
+pub mod Marks
+pub mod Reached

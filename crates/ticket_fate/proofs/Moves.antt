@@ -1,0 +1,354 @@
+-- Every move keeps what holds of the tickets and the targets.
+use Rattle.std.proofs.Common.{◌≡◌, ◌≢◌, ℕ, ◌+◌, ◌-◌, ◌<◌, Bool, List, refl, ap, arith, sym, ◌∙◌, subst, Some, ◌⊎◌, inl, inr, nat_eq}
+use Rattle.rig_types.specs.declared.report.Outcome.{Outcome}
+use Rattle.rig_types.specs.declared.report.Outcome.TheVariants.{Done, Cut, Reset, NoTarget, Broken}
+use Rattle.rig_types.specs.declared.report.Report.{Report}
+use Rattle.unit_law.specs.Report.{Setting, By}
+use Rattle.logs_have_room.specs.Room.{entries}
+use Rattle.unit_law.specs.declared.entry.LogEntry.{LogEntry}
+use Rattle.unit_law.specs.Log.{View, with_at}
+use Rattle.unit_law.proofs.Views.{with_at-same, with_at-other, same_or_not, ne-test, eq-test}
+use Rattle.target_law.specs.declared.moves.Move.{Move}
+use Rattle.target_law.specs.declared.showing.Showing.{Showing}
+use Rattle.target_law.specs.declared.showing.Showing.TheVariants.{Choosing, Hearing, Sending, Receiving, Telling, Saying}
+use Rattle.target_law.specs.declared.showing.NamePart.TheVariants as part
+use Rattle.target_law.specs.declared.showing.Note.{Note}
+use Rattle.target_law.specs.declared.showing.Note.TheVariants.{Name, Complete, SaveThenLeave, SaveNow, RestoreNow, LeaveNow}
+use Rattle.target_law.specs.declared.showing.Verdict.{Verdict}
+use Rattle.target_law.specs.declared.showing.Verdict.TheVariants.{Answered as HasAnswered, Refused}
+use Rattle.unit_law.specs.Request.{PlainRequest, command}
+use Rattle.ticket_fate.proofs.TaskLists.{away-at}
+use Rattle.ticket_fate.proofs.Choices.{follows}
+use Rattle.target_law.specs.Session.{Session, acted, began}
+use Rattle.target_law.specs.Bytes.{Connection, sent_by, heard_by}
+use Rattle.target_law.specs.Target.{LogicalUnit, Link, Free, Greeted, Commanded, Working, Straying, Target, unit_at, session, linked, parted, target_reset, goes_on}
+use Rattle.target_law.specs.Calls.{target_acted, acted_by, begun, has_ended, task_reselected}
+use Rattle.ticket_fate.specs.Tickets.{Plan, unit_of, Life, Unbuilt, Built, Linked, ToRequeue, Waits, Selected, Connected, Away, Lost, Rejected, Finished, Checked, Asks, AskStarts, AskConnected, AskLost, Asked, AtRogue, Ended, Unlinked, Freed, Ticket, setting, course_at, freed_ticket, view_for}
+use Rattle.ticket_fate.specs.Fates.{ReportFits, FreedReportFits, TicketKept}
+use Rattle.ticket_fate.specs.Linked.{IsPlan, UnitKept, LinkKept, TargetKept, reset_tickets, reset_ticket, lost_life}
+use Rattle.ticket_fate.specs.Moves.{CompletesTicket, parts_ticket, TicketMove, builds, links, queues, requeues, selects, times_out, cancels, takes_again, takes_refused, takes, sweeps, unlinks, frees, IsIdle, target_of, pointed_ticket, marked_ticket, Moves, alone, points, marks, relinks, acts, sends, receives, hears, leaves_bus, completes, drops_task, reselects, begins, resets_idle, resets_work}
+use Rattle.ticket_fate.specs.Kept.{AtLink, AllKept}
+use Rattle.ticket_fate.proofs.TicketSteps.{fate_at, built-kept, linked-kept, queued-kept, again-kept, selected-kept, absent-kept, cancelled-kept, requeue-kept, refused-kept}
+use Rattle.ticket_fate.proofs.Targets.{unit-elsewhere, units-elsewhere, acted-kept, at-lun, at, kept, runs}
+use Rattle.ticket_fate.proofs.Calls.{unit-ticket-changed, again, byte-in, byte-out, heard}
+use Rattle.ticket_fate.proofs.TaskEnds.{leaves-kept, ends-kept, drops-kept, reselects as reselect-kept, begins as begin-kept, begin-link}
+use Rattle.ticket_fate.proofs.Marks.{unit-same-life, marked-kept}
+use Rattle.ticket_fate.proofs.Resets.{idle-reset, work-reset, link-agrees, unit-agrees}
+
+-- how many entries lie outside a ticket's life is no matter of the cases
+by-outside : (o : Outcome) (s : Setting) (r : PlainRequest) (v : View) (m b : Bool) (clears few many : ℕ) (q : Report) → By o s r v (course_at m clears b few) q → By o s r v (course_at m clears b many) q
+by-outside Done s r v m b clears few many q h = h
+by-outside Cut s r v m b clears few many q h = h
+by-outside Reset s r v m b clears few many q h = h
+by-outside NoTarget s r v m b clears few many q h = h
+by-outside Broken s r v m b clears few many q h = h
+
+-- at the Free no entry has come after it
+freed-fits : (g : Plan) (t : ℕ) (k : Ticket) (v : View) (o : Outcome) → k.before ≡ 0 → ReportFits g t k v o → FreedReportFits g t (freed_ticket k o v.tally) v o
+freed-fits g t k v o none f = λ rogue.
+    let h = f rogue in
+    record {
+      by = by-outside o (setting g (unit_of g t)) (g.requests t) v k.marked k.bus_reset (v.tally.clears - k.since) 0 (k.before + (entries v.tally - entries v.tally)) _ h.by;
+      ticket = refl;
+      of_unit = refl;
+      few_tries = h.few_tries;
+      all_within = omega (arith, none);
+      all_caused = refl;
+    }
+
+-- a step of a ticket by itself
+stands-on : (g : Plan) (x : ℕ) (k : Ticket) (log : List LogEntry) (j : Ticket) → TicketMove g x (view_for g x log) k j → TicketKept g x k log → TicketKept g x j log
+stands-on g x k log j (builds tag e) s = built-kept g x k log s tag e
+stands-on g x k log j (links e) s = linked-kept g x k log s e
+stands-on g x k log j (queues e) s = queued-kept g x k log s e
+stands-on g x k log j (requeues e) s = again-kept g x k log s e
+stands-on g x k log j (selects e f) s = selected-kept g x k log s e f
+stands-on g x k log j (times_out e f) s = absent-kept g x k log s e f
+stands-on g x k log j (cancels e f) s = cancelled-kept g x k log s e f
+stands-on g x k log j (takes_again st e f) s = requeue-kept g x k log s st e f
+stands-on g x k log j (takes_refused st e f) s = refused-kept g x k log s st e f
+stands-on g x k log j (takes o e) s = record { fate = fate_at g x k log (Finished o) s e; absent = λ a. ((s.absent a).0, tt); since = s.since; before = s.before }
+stands-on g x k log j (sweeps e) s = record { fate = fate_at g x k log Lost s e; absent = λ a. ((s.absent a).0, tt); since = s.since; before = s.before }
+stands-on g x k log j (unlinks o e) s = record { fate = fate_at g x k log (Ended o) s e; absent = λ a. ((s.absent a).0, tt); since = s.since; before = s.before }
+stands-on g x k log j (frees o e) s = record { fate = freed-fits g x k (view_for g x log) o s.before (fate_at g x k log (Unlinked o) s e); absent = λ a. ((s.absent a).0, tt); since = s.since; before = s.before }
+
+-- neither before nor after it has a task
+abbrev NoTask : Life → Type 0
+NoTask Connected = ⊥
+NoTask Away = ⊥
+NoTask _ = Unit {0}
+
+without : (l : Life) → NoTask l → (l ≡ Connected → ⊥) × (l ≡ Away → ⊥)
+without l n = ((λ e. subst NoTask e n), (λ e. subst NoTask e n))
+
+taskless : (g : Plan) (x : ℕ) (k : Ticket) (log : List LogEntry) (j : Ticket) → TicketMove g x (view_for g x log) k j → NoTask k.life × NoTask j.life
+taskless g x k log j (builds tag e) = (subst NoTask (sym e) tt, tt)
+taskless g x k log j (links e) = (subst NoTask (sym e) tt, tt)
+taskless g x k log j (queues e) = (subst NoTask (sym e) tt, tt)
+taskless g x k log j (requeues e) = (subst NoTask (sym e) tt, tt)
+taskless g x k log j (selects e f) = (subst NoTask (sym e) tt, tt)
+taskless g x k log j (times_out e f) = (subst NoTask (sym e) tt, tt)
+taskless g x k log j (cancels e f) = (subst NoTask (sym e) tt, tt)
+taskless g x k log j (takes_again st e f) = (subst NoTask (sym e) tt, tt)
+taskless g x k log j (takes_refused st e f) = (subst NoTask (sym e) tt, tt)
+taskless g x k log j (takes o e) = (subst NoTask (sym e) tt, tt)
+taskless g x k log j (sweeps e) = (subst NoTask (sym e) tt, tt)
+taskless g x k log j (unlinks o e) = (subst NoTask (sym e) tt, tt)
+taskless g x k log j (frees o e) = (subst NoTask (sym e) tt, tt)
+
+module _ (g : Plan) (count : ℕ) (plan : IsPlan g count) (ks : ℕ → Ticket) (ts : ℕ → Target) (h : AllKept g count ks ts) where
+  -- a ticket of target i changes, and the target with it
+  each_at : (x : ℕ) (k : Ticket) (t : Target) → TargetKept g count (target_of g x) (with_at ks x k) t → (j : ℕ) → (j ≡ target_of g x) ⊎ (j ≢ target_of g x)
+      → TargetKept g count j (with_at ks x k) (with_at ts (target_of g x) t j)
+  each_at x k t new j (inl q) = subst (TargetKept g count j (with_at ks x k)) (sym (ap (with_at ts (target_of g x) t) q ∙ with_at-same ts (target_of g x) t)) (subst (λ i. TargetKept g count i (with_at ks x k) t) (sym q) new)
+  each_at x k t new j (inr d) =
+      let old = h.each j in
+      let e : target_of g x ≢ j = λ q. d (sym q) in
+      subst (TargetKept g count j (with_at ks x k)) (sym (with_at-other ts (target_of g x) t j d)) (record {
+        units = units-elsewhere g count plan j ks (ts j) old.units x k e;
+        link = link-agrees (ts j).link g j ks (with_at ks x k) (ts j) (λ y f. with_at-other ks x k y (λ q. e (ap (target_of g) (sym q) ∙ f))) old.link;
+      })
+
+  here_at : (x : ℕ) (k : Ticket) (t : Target) → (k.life ≡ Connected → AtLink t.link x) → ((y : ℕ) → y ≢ x → target_of g y ≡ target_of g x → (ks y).life ≡ Connected → AtLink t.link y)
+      → (y : ℕ) → (with_at ks x k y).life ≡ Connected → (y ≡ x) ⊎ (y ≢ x) → (target_of g y ≡ target_of g x) ⊎ (target_of g y ≢ target_of g x) → AtLink (with_at ts (target_of g x) t (target_of g y)).link y
+  here_at x k t own others y e (inl q) s =
+      let l : k.life ≡ Connected = ap (λ z. z.life) (sym (ap (with_at ks x k) q ∙ with_at-same ks x k)) ∙ e in
+      subst (λ z. AtLink z.link y) (sym (ap (λ z. with_at ts (target_of g x) t (target_of g z)) q ∙ with_at-same ts (target_of g x) t)) (subst (AtLink t.link) (sym q) (own l))
+  here_at x k t own others y e (inr d) (inl f) =
+      let l : (ks y).life ≡ Connected = ap (λ z. z.life) (sym (with_at-other ks x k y d)) ∙ e in
+      subst (λ z. AtLink z.link y) (sym (ap (with_at ts (target_of g x) t) f ∙ with_at-same ts (target_of g x) t)) (others y d f l)
+  here_at x k t own others y e (inr d) (inr f) =
+      let l : (ks y).life ≡ Connected = ap (λ z. z.life) (sym (with_at-other ks x k y d)) ∙ e in
+      subst (λ z. AtLink z.link y) (sym (with_at-other ts (target_of g x) t (target_of g y) f)) (h.here y l)
+
+  changed : (x : ℕ) (k : Ticket) (t : Target) → TargetKept g count (target_of g x) (with_at ks x k) t → (k.life ≡ Connected → AtLink t.link x)
+      → ((y : ℕ) → y ≢ x → target_of g y ≡ target_of g x → (ks y).life ≡ Connected → AtLink t.link y) → AllKept g count (with_at ks x k) (with_at ts (target_of g x) t)
+  changed x k t new own others = record {
+    each = λ j. each_at x k t new j (same_or_not j (target_of g x));
+    here = λ y e. here_at x k t own others y e (same_or_not y x) (same_or_not (target_of g y) (target_of g x));
+  }
+
+  -- the connected ticket is the only one of its target
+  only : (c : Connection) (x : ℕ) (l : Link) → (ts (target_of g x)).link ≡ Working c → c.task.ticket ≡ x → (y : ℕ) → y ≢ x → target_of g y ≡ target_of g x → (ks y).life ≡ Connected → AtLink l y
+  only c x l working own y d f e =
+      let a = subst (λ z. AtLink z y) working (subst (λ z. AtLink (ts z).link y) f (h.here y e)) in absurd (d (sym a ∙ own))
+
+  nobody : (i : ℕ) → IsIdle (ts i).link → (y : ℕ) → target_of g y ≡ i → (ks y).life ≡ Connected → ⊥
+  nobody i idle y f e = gone (ts i).link idle (subst (λ z. AtLink (ts z).link y) f (h.here y e))
+    where
+      gone : (l : Link) → IsIdle l → AtLink l y → ⊥
+      gone Free s a = a
+      gone (Greeted b) s a = a
+      gone (Commanded n b) s a = a
+      gone (Working c) s a = s
+      gone (Straying s n) z a = a
+
+  -- a call of the target that a task is connected to
+  calls : (i : ℕ) (c : Connection) (k : Ticket) (t : Target) → (ts i).link ≡ Working c → TargetKept g count i (with_at ks c.task.ticket k) t → (k.life ≡ Connected → AtLink t.link c.task.ticket)
+      → AllKept g count (with_at ks c.task.ticket k) (with_at ts i t)
+  calls i c k t working new own =
+      let w = subst (λ l. LinkKept l g i ks (ts i)) working (h.each i).link in
+      let e : target_of g c.task.ticket ≡ i = w.target in
+      subst (λ z. AllKept g count (with_at ks c.task.ticket k) (with_at ts z t)) e
+      (changed c.task.ticket k t (subst (λ z. TargetKept g count z (with_at ks c.task.ticket k) t) (sym e) new) own
+      (only c c.task.ticket t.link (ap (λ z. (ts z).link) e ∙ working) refl))
+
+  -- nothing of tickets changes, and no task is connected
+  pub relinked : (i : ℕ) (l : Link) → IsIdle (ts i).link → IsIdle l → AllKept g count ks (with_at ts i (linked (ts i) l))
+  relinked i l idle next = record { each = λ j. at j (same_or_not j i); here = λ x e. there x e (same_or_not (target_of g x) i) }
+    where
+      free : (l : Link) → IsIdle l → (t : Target) → LinkKept l g i ks t
+      free Free s t = tt
+      free (Greeted b) s t = tt
+      free (Commanded n b) s t = tt
+      free (Working c) s t = absurd s
+      free (Straying z n) s t = absurd s
+
+      at : (j : ℕ) → (j ≡ i) ⊎ (j ≢ i) → TargetKept g count j ks (with_at ts i (linked (ts i) l) j)
+      at j (inl q) = subst (TargetKept g count j ks) (sym (ap (with_at ts i (linked (ts i) l)) q ∙ with_at-same ts i (linked (ts i) l)))
+          (subst (λ z. TargetKept g count z ks (linked (ts i) l)) (sym q) (record { units = (h.each i).units; link = free l next (linked (ts i) l) }))
+      at j (inr d) = subst (TargetKept g count j ks) (sym (with_at-other ts i (linked (ts i) l) j d)) (h.each j)
+
+      there : (x : ℕ) → (ks x).life ≡ Connected → (target_of g x ≡ i) ⊎ (target_of g x ≢ i) → AtLink (with_at ts i (linked (ts i) l) (target_of g x)).link x
+      there x e (inl q) = absurd (nobody i idle x q e)
+      there x e (inr d) = subst (λ z. AtLink z.link x) (sym (with_at-other ts i (linked (ts i) l) (target_of g x) d)) (h.here x e)
+
+  link_at : (x : ℕ) (k : Ticket) → ((ks x).life ≡ Connected → (k.life ≡ Connected) × (k.task ≡ (ks x).task)) → (j : ℕ) (l : Link) (t : Target) → LinkKept l g j ks t → LinkKept l g j (with_at ks x k) t
+  link_at x k f j Free t w = tt
+  link_at x k f j (Greeted b) t w = tt
+  link_at x k f j (Commanded n b) t w = tt
+  link_at x k f j (Straying s n) t w = w
+  link_at x k f j (Working c) t w = by (same_or_not c.task.ticket x)
+    where
+      by : (c.task.ticket ≡ x) ⊎ (c.task.ticket ≢ x) → LinkKept (Working c) g j (with_at ks x k) t
+      by (inl q) =
+          let m : with_at ks x k c.task.ticket ≡ k = ap (with_at ks x k) q ∙ with_at-same ks x k in
+          let z = f (ap (λ y. (ks y).life) (sym q) ∙ w.life) in
+          record { target = w.target; lun = w.lun; life = ap (λ y. y.life) m ∙ z.0; task = ap (λ y. y.task) m ∙ z.1 ∙ ap (λ y. (ks y).task) (sym q) ∙ w.task; sound = w.sound; worth = w.worth }
+      by (inr d) =
+          let m = with_at-other ks x k c.task.ticket d in
+          record { target = w.target; lun = w.lun; life = ap (λ y. y.life) m ∙ w.life; task = ap (λ y. y.task) m ∙ w.task; sound = w.sound; worth = w.worth }
+
+  -- a ticket alone changes
+  ticket-changed : (x : ℕ) (k : Ticket) → ((u : LogicalUnit) → unit_at (ts (target_of g x)).units (g.units (unit_of g x)).lun ≡ Some u → UnitKept g (unit_of g x) ks u → UnitKept g (unit_of g x) (with_at ks x k) u)
+      → ((ks x).life ≡ Connected → (k.life ≡ Connected) × (k.task ≡ (ks x).task)) → (k.life ≡ Connected → (ks x).life ≡ Connected) → AllKept g count (with_at ks x k) ts
+  ticket-changed x k f p q = record {
+    each = λ j. record { units = λ n less target. at j n less target (same_or_not n (unit_of g x)); link = link_at x k p j (ts j).link (ts j) (h.each j).link };
+    here = λ y e. there y e (same_or_not y x);
+  }
+    where
+      at : (j n : ℕ) → n < count → (g.units n).target ≡ j → (n ≡ unit_of g x) ⊎ (n ≢ unit_of g x) → (u : LogicalUnit) × (unit_at (ts j).units (g.units n).lun ≡ Some u) × UnitKept g n (with_at ks x k) u
+      at j n less target (inl e) =
+          let old = (h.each j).units n less target in
+          let i : j ≡ target_of g x = sym target ∙ ap (λ m. (g.units m).target) e in
+          (old.0, old.1, subst (λ m. UnitKept g m (with_at ks x k) old.0) (sym e) (f old.0 (ap (λ z. unit_at (ts z).units (g.units (unit_of g x)).lun) (sym i) ∙ ap (λ m. unit_at (ts j).units (g.units m).lun) (sym e) ∙ old.1) (subst (λ m. UnitKept g m ks old.0) e old.2)))
+      at j n less target (inr d) = let old = (h.each j).units n less target in (old.0, old.1, unit-elsewhere g n ks x k old.0 (λ z. d (sym z)) old.2)
+
+      there : (y : ℕ) → (with_at ks x k y).life ≡ Connected → (y ≡ x) ⊎ (y ≢ x) → AtLink (ts (target_of g y)).link y
+      there y e (inl z) = h.here y (ap (λ w. (ks w).life) z ∙ q (ap (λ w. w.life) (sym (ap (with_at ks x k) z ∙ with_at-same ks x k)) ∙ e))
+      there y e (inr d) = h.here y (ap (λ w. w.life) (sym (with_at-other ks x k y d)) ∙ e)
+
+  alone-keeps : (x : ℕ) (k : Ticket) (u : LogicalUnit) → unit_at (ts (target_of g x)).units (g.units (unit_of g x)).lun ≡ Some u → TicketMove g x (view_for g x u.log) (ks x) k → AllKept g count (with_at ks x k) ts
+  alone-keeps x k u there m =
+      let n = taskless g x (ks x) u.log k m in
+      let a = without (ks x).life n.0 in
+      let b = without k.life n.1 in
+      ticket-changed x k (λ v e kept. let same : u ≡ v = some u v (sym there ∙ e) in
+      unit-ticket-changed g ks x k v a.1 b.1 (subst (λ w. TicketKept g x k w.log) same (stands-on g x (ks x) u.log k m (subst (λ w. TicketKept g x (ks x) w.log) (sym same) (kept.each x refl)))) kept)
+      (λ e. absurd (a.0 e)) (λ e. absurd (b.0 e))
+    where
+      some : (a b : LogicalUnit) → Some a ≡ Some b → a ≡ b
+      some a b e = cc
+
+  points-keep : (x lastp savep : ℕ) → (ks x).life ≡ Connected → AllKept g count (with_at ks x (pointed_ticket (ks x) lastp savep)) ts
+  points-keep x lastp savep e = ticket-changed x (pointed_ticket (ks x) lastp savep)
+      (λ v there kept. unit-ticket-changed g ks x (pointed_ticket (ks x) lastp savep) v (λ a. apart (sym e ∙ a)) (λ a. apart (sym e ∙ a)) (again g x (ks x) (pointed_ticket (ks x) lastp savep) v.log e e (refl, refl) (kept.each x refl) (λ r. r)) kept)
+      (λ f. (f, refl)) (λ f. f)
+    where
+      apart : Connected ≡ Away → ⊥
+      apart q = cc
+
+  -- a reset of one target
+  resets : (i : ℕ) (ns : ℕ → Ticket) → TargetKept g count i (reset_tickets g i ns) (target_reset (ts i)) → ((x : ℕ) → target_of g x ≢ i → ns x ≡ ks x) → AllKept g count (reset_tickets g i ns) (with_at ts i (target_reset (ts i)))
+  resets i ns new same = record { each = λ j. at j (same_or_not j i); here = λ x e. there x e (same_or_not (target_of g x) i) }
+    where
+      agree : (x : ℕ) → target_of g x ≢ i → reset_tickets g i ns x ≡ ks x
+      agree x d = ap (λ b. reset_ticket b (ns x)) (ne-test (target_of g x) i d) ∙ same x d
+
+      at : (j : ℕ) → (j ≡ i) ⊎ (j ≢ i) → TargetKept g count j (reset_tickets g i ns) (with_at ts i (target_reset (ts i)) j)
+      at j (inl q) = subst (TargetKept g count j (reset_tickets g i ns)) (sym (ap (with_at ts i (target_reset (ts i))) q ∙ with_at-same ts i (target_reset (ts i)))) (subst (λ z. TargetKept g count z (reset_tickets g i ns) (target_reset (ts i))) (sym q) new)
+      at j (inr d) = subst (TargetKept g count j (reset_tickets g i ns)) (sym (with_at-other ts i (target_reset (ts i)) j d)) (record {
+        units = λ n less target. let old = (h.each j).units n less target in
+            (old.0, old.1, unit-agrees g n ks (reset_tickets g i ns) old.0 (λ x e. agree x (λ q. d (sym target ∙ ap (λ z. (g.units z).target) (sym e) ∙ q))) old.2);
+        link = link-agrees (ts j).link g j ks (reset_tickets g i ns) (ts j) (λ x e. agree x (λ q. d (sym e ∙ q))) (h.each j).link;
+      })
+
+      dead : (l : Life) → lost_life l ≡ Connected → ⊥
+      dead Unbuilt e = cc
+      dead Built e = cc
+      dead Linked e = cc
+      dead ToRequeue e = cc
+      dead Waits e = cc
+      dead Selected e = cc
+      dead Connected e = cc
+      dead Away e = cc
+      dead Lost e = cc
+      dead (Rejected st) e = cc
+      dead (Finished o) e = cc
+      dead Checked e = cc
+      dead Asks e = cc
+      dead AskStarts e = cc
+      dead AskConnected e = cc
+      dead AskLost e = cc
+      dead Asked e = cc
+      dead AtRogue e = cc
+      dead (Ended o) e = cc
+      dead (Unlinked o) e = cc
+      dead (Freed o) e = cc
+
+      there : (x : ℕ) → (reset_tickets g i ns x).life ≡ Connected → (target_of g x ≡ i) ⊎ (target_of g x ≢ i) → AtLink (with_at ts i (target_reset (ts i)) (target_of g x)).link x
+      there x e (inl q) = absurd (dead (ns x).life (ap (λ k. k.life) (sym (ap (λ b. reset_ticket b (ns x)) (ap (λ z. nat_eq z i) q ∙ eq-test i))) ∙ e))
+      there x e (inr d) = subst (λ z. AtLink z.link x) (sym (with_at-other ts i (target_reset (ts i)) (target_of g x) d)) (h.here x (ap (λ k. k.life) (sym (agree x d)) ∙ e))
+
+  idle-parts : (i : ℕ) → IsIdle (ts i).link → (l : Link) → l ≡ (ts i).link → parted l (ts i) ≡ ts i
+  idle-parts i idle Free e = refl
+  idle-parts i idle (Greeted b) e = refl
+  idle-parts i idle (Commanded n b) e = refl
+  idle-parts i idle (Working c) e = absurd (subst IsIdle (sym e) idle)
+  idle-parts i idle (Straying s n) e = refl
+
+  acts-link : (i : ℕ) (c : Connection) (u : LogicalUnit) (m : Move) → (ts i).link ≡ Working c → unit_at (ts i).units c.lun ≡ Some u → target_acted (ts i) m ≡ goes_on (ts i) c u (acted m (session u c))
+  unfolding target_acted
+  acts-link i c u m working there = ap (λ l. acted_by l (ts i) m) working ∙ at-lun (ts i) c.lun _ u there
+
+sent-ticket : (sh : Showing) (c : Connection) → (sent_by sh c).task.ticket ≡ c.task.ticket
+sent-ticket Choosing c = refl
+sent-ticket Hearing c = refl
+sent-ticket (Sending n) c = refl
+sent-ticket (Receiving n) c = refl
+sent-ticket (Telling v) c = refl
+sent-ticket (Saying n s) c = refl
+
+heard-ticket : (n : Note) (c : Connection) → (heard_by n c).task.ticket ≡ c.task.ticket
+heard-ticket (Name part.Lun) c = refl
+heard-ticket (Name part.Queue) c = refl
+heard-ticket (Name part.Tag) c = refl
+heard-ticket (Complete v) c = refl
+heard-ticket SaveThenLeave c = refl
+heard-ticket SaveNow c = refl
+heard-ticket RestoreNow c = refl
+heard-ticket LeaveNow c = refl
+
+closing-life : (v : Verdict) (g : Plan) (t : ℕ) (k : Ticket) (s : Session) (j : Ticket) → CompletesTicket v g t k s j → j.life ≡ Connected → ⊥
+closing-life (HasAnswered st) g t k s j z e = let q : Finished Done ≡ Connected = sym (ap (λ y. y.life) z.2) ∙ e in cc
+closing-life (Refused st) g t k s j z e = let q : Rejected st ≡ Connected = sym (ap (λ y. y.life) z.1) ∙ e in cc
+
+-- every move
+pub keeps : (g : Plan) (count : ℕ) → IsPlan g count → (ks : ℕ → Ticket) (ts : ℕ → Target) (ns : ℕ → Ticket) (us : ℕ → Target) → Moves g count ks ts ns us → AllKept g count ks ts → AllKept g count ns us
+keeps g count plan ks ts ns us (alone x k u e m) h = alone-keeps g count plan ks ts h x k u e m
+keeps g count plan ks ts ns us (points x lastp savep e) h = points-keep g count plan ks ts h x lastp savep e
+keeps g count plan ks ts ns us (marks x can) h = ticket-changed g count plan ks ts h x (marked_ticket (ks x))
+    (λ u there kept. unit-same-life g ks x (marked_ticket (ks x)) u refl refl (marked-kept g x (ks x) u.log (kept.each x refl)) kept) (λ e. (e, refl)) (λ e. e)
+keeps g count plan ks ts ns us (relinks i l e f) h = relinked g count plan ks ts h i l e f
+keeps g count plan ks ts ns us (acts i c u m limit refused w there e can) h =
+    let own = (follows g c.task.ticket _ _ _ (session u c) refl (runs g count plan i ks (ts i) (h.each i) c w u there) (kept g count plan i ks (ts i) (h.each i) c w u there).plain
+    ((at g count plan i ks (ts i) (h.each i) c w u there).sound u there).task m).ticket in
+    calls g count plan ks ts h i c _ (target_acted (ts i) m) w (acted-kept g count plan i ks (ts i) (h.each i) c w u there m limit refused e can)
+    (λ z. subst (λ t. AtLink t.link c.task.ticket) (sym (acts-link g count plan ks ts h i c u m w there)) own)
+keeps g count plan ks ts ns us (sends i c at b w e byte) h = calls g count plan ks ts h i c _ _ w (byte-in g count plan i ks (ts i) (h.each i) c w at b e byte) (λ z. sent-ticket c.shows c)
+keeps g count plan ks ts ns us (receives i c n at b w e f byte) h = calls g count plan ks ts h i c _ _ w (byte-out g count plan i ks (ts i) (h.each i) c w n at b e f byte) (λ z. refl)
+keeps g count plan ks ts ns us (hears i c n s w e d f) h = calls g count plan ks ts h i c _ _ w (heard g count plan i ks (ts i) (h.each i) c w n s e d f) (λ z. heard-ticket n c)
+keeps g count plan ks ts ns us (leaves_bus i c u w there e) h =
+    calls g count plan ks ts h i c _ _ w (leaves-kept g count plan i ks (ts i) (h.each i) c w u there e) (λ z. absurd (let q : Away ≡ Connected = z in cc))
+keeps g count plan ks ts ns us (completes i c u v s k w there e z) h =
+    calls g count plan ks ts h i c _ _ w (ends-kept g count plan i ks (ts i) (h.each i) c w u there v s e k z) (λ y. absurd (closing-life v g c.task.ticket (ks c.task.ticket) (session u c) k z y))
+keeps g count plan ks ts ns us (drops_task i c u w there e) h =
+    calls g count plan ks ts h i c _ _ w (drops-kept g count plan i ks (ts i) (h.each i) c w u there e) (λ z. absurd (let q : Finished Cut ≡ Connected = z in cc))
+keeps g count plan ks ts ns us (reselects n m u k less idle there e) h =
+    let old = (h.each (g.units n).target).units n less refl in
+    let same : old.0 ≡ u = same_unit old.0 u (sym old.1 ∙ there) in
+    let unit : UnitKept g n ks u = subst (UnitKept g n ks) same old.2 in
+    let a = away-at g n ks m u.tasks k unit.lists.tasks e in
+    let f : target_of g k.ticket ≡ (g.units n).target = ap (λ z. (g.units z).target) a.unit in
+    let i = (g.units n).target in
+    let t = task_reselected (ts i) (g.units n).lun m u (Some k) in
+    let new = record (ks k.ticket) { life = Connected; task = k } in
+    subst (λ z. AllKept g count (with_at ks k.ticket new) (with_at ts z t)) f
+    (changed g count plan ks ts h k.ticket new t (subst (λ z. TargetKept g count z (with_at ks k.ticket new) t) (sym f) (reselect-kept g count plan i ks (ts i) (h.each i) n less refl m u k there unit e)) (λ z. refl)
+    (λ y d q l. absurd (nobody g count plan ks ts h i idle y (q ∙ f) l)))
+  where
+    same_unit : (a b : LogicalUnit) → Some a ≡ Some b → a ≡ b
+    same_unit a b q = cc
+keeps g count plan ks ts ns us (begins x n u idle there lun tag life others) h =
+    let i = target_of g x in
+    let t = begun (ts i) n (command (g.requests x)) u x in
+    let new = record (ks x) { life = Connected; task = began n.tag x (command (g.requests x)) u.rig.disconnects (has_ended u.log x) } in
+    let k = begin-kept g count plan i ks (ts i) (h.each i) x refl n u there lun tag life others in
+    changed g count plan ks ts h x new t k (λ z. begin-link g count plan i ks (ts i) (h.each i) x refl n u there lun tag life others)
+    (λ y d q l. absurd (nobody g count plan ks ts h i idle y q l))
+keeps g count plan ks ts ns us (resets_idle i idle) h =
+    resets g count plan ks ts h i ks (idle-reset g count plan i ks (ts i) (h.each i) (idle-parts g count plan ks ts h i idle) (λ x e l. nobody g count plan ks ts h i idle x e l)) (λ x d. refl)
+keeps g count plan ks ts ns us (resets_work i c u w there) h =
+    resets g count plan ks ts h i (with_at ks c.task.ticket (parts_ticket ks c))
+    (work-reset g count plan i ks (ts i) (h.each i) c w u there (λ x e l. sym (subst (λ z. AtLink z x) w (subst (λ z. AtLink (ts z).link x) e (h.here x l)))))
+    (λ x d. with_at-other ks c.task.ticket (parts_ticket ks c) x (λ q. d (ap (target_of g) q ∙ (subst (λ l. LinkKept l g i ks (ts i)) w (h.each i).link).target)))
