@@ -1,0 +1,6 @@
+//! Who owns each word of host memory while the chip runs the driver script, for any target. Nothing here runs.
+#![tactic(auto)]
+
+mod laws;
+
+pub use laws::{script_steps, script_writes_only};
