@@ -17,11 +17,11 @@ use Rattle.ownership.specs.Steps.{WritesOnly}
 use Rattle.ownership.proofs.Instructions.{written_by, stored_at, written_as}
 use Rattle.ownership.proofs.Steps.{stands_at}
 
-shorter : (a n m x : ℕ) → m ≤ n → IsIn (range a m) x → IsIn (range a n) x
+pub shorter : (a n m x : ℕ) → m ≤ n → IsIn (range a m) x → IsIn (range a n) x
 shorter a n m x h (inl i) = inl (i.0, omega (arith, i.1))
 shorter a n m x h (inr i) = absurd i
 
-in_memory : (b : Bool) (a n x : ℕ) → IsIn (range_at (if b then Some a else None) n) x → IsIn (range a n) x
+pub in_memory : (b : Bool) (a n x : ℕ) → IsIn (range_at (if b then Some a else None) n) x → IsIn (range a n) x
 in_memory true a n x h = h
 in_memory false a n x h = absurd h
 
@@ -64,7 +64,7 @@ module _ {B : Type 0} (chip : Chip B) (left x : ℕ) where
   writes_in (op.Load r n place) h = h
   writes_in (op.Store r n place) h = stored n place h
 
-wider : (a b : List Range) (old new : List ℕ) → ((x : ℕ) → IsIn a x → IsIn b x) → ChangesWithin a old new → ChangesWithin b old new
+pub wider : (a b : List Range) (old new : List ℕ) → ((x : ℕ) → IsIn a x → IsIn b x) → ChangesWithin a old new → ChangesWithin b old new
 wider a b old new sub c = record { size = c.size; others = λ x h. c.others x (λ i. h (sub x i)) }
 
 module _ {B : Type 0} (moves : B → Event → B → Type 0) where

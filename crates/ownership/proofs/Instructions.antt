@@ -45,7 +45,7 @@ agrees place op = same_place (written_by op) place && not (has_third (row op).fi
 abbrev test : ℕ → Bool
 test k = agrees (footprint (8 * k)) (slice_index_or SCRIPT k Nop)
 
-abbrev all_below : ℕ → (ℕ → Bool) → Bool
+abbrev pub all_below : ℕ → (ℕ → Bool) → Bool
 all_below zero t = true
 all_below (suc n) t = t n && all_below n t
 
@@ -53,7 +53,7 @@ all_agree : all_below 151 test ≡ true
 unfolding footprint data_move
 all_agree = refl
 
-both : (a b : Bool) → a && b ≡ true → (a ≡ true) × (b ≡ true)
+pub both : (a b : Bool) → a && b ≡ true → (a ≡ true) × (b ≡ true)
 both true true h = (refl, refl)
 both true false h = absurd (false≢true h)
 both false b h = absurd (false≢true h)
@@ -63,7 +63,7 @@ below_or n k t h rest (inl e) b = rw e h.0
 below_or n k t h rest (inr (inl l)) b = rest l
 below_or n k t h rest (inr (inr l)) b = absurd (omega arith)
 
-below : (n k : ℕ) (t : ℕ → Bool) → all_below n t ≡ true → k < n → t k ≡ true
+pub below : (n k : ℕ) (t : ℕ → Bool) → all_below n t ≡ true → k < n → t k ≡ true
 below zero k t h b = absurd (omega arith)
 below (suc n) k t h b =
     let all = both (t n) (all_below n t) h in

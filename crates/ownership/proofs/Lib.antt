@@ -1,3 +1,4 @@
 pub mod Instructions
 pub mod Steps
 pub mod Footprint
+pub mod Control

@@ -19,7 +19,7 @@ len_most : (b : Bool) (n : ℕ) → n + 12 ≤ 0x400000 → nat_le (n + (if b th
 len_most true n h = grind (arith, nat_tests)
 len_most false n h = grind (arith, nat_tests)
 
-can : (m : List ℕ) (r : Regs) (k : ℕ) → length m ≡ 0x400000 → r.dsp ≡ 8 * k → k < 151 → can_fetch m r ≡ true
+pub can : (m : List ℕ) (r : Regs) (k : ℕ) → length m ≡ 0x400000 → r.dsp ≡ 8 * k → k < 151 → can_fetch m r ≡ true
 can m r k s e h =
     let a : nat_eq (r.dsp % 4) 0 ≡ true = grind (arith, nat_tests) in
     let b : nat_le (r.dsp + 8) 0x400000 ≡ true = grind (arith, nat_tests) in

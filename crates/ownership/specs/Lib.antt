@@ -1,3 +1,4 @@
 pub mod Standing
 pub mod Footprint
 pub mod Steps
+pub mod Control

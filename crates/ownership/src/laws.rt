@@ -1,5 +1,6 @@
 //! Laws of the script's steps. Each function does nothing; its contract is the law, for every bus.
 
+ghost use Rattle.ownership.specs.Control.{ChangesControl, ReadsControl};
 ghost use Rattle.ownership.specs.Steps.{Follows, IsRow, IsStep, WritesOnly};
 
 use chip_step::Bus;
@@ -17,4 +18,12 @@ pub fn script_steps<B: Bus>()
 /// the message that came, and where a data move brings data in.
 pub fn script_writes_only<B: Bus>()
     ensures { WritesOnly B.moves }
+{}
+
+/// Where memory holds the script and the chip runs at an address of it that is no data move, a step changes, and depends
+/// on, only the words that driver and script share, the words at DSA that lie before the message of a block, the
+/// message, the command and the status that the block's entries name, and its own instruction.
+pub fn only_data_moves_touch_data<B: Bus>()
+    ensures changes { ChangesControl B.moves }
+    ensures reads { ReadsControl B.moves }
 {}
