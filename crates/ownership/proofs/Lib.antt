@@ -2,3 +2,4 @@ pub mod Instructions
 pub mod Steps
 pub mod Footprint
 pub mod Control
+pub mod Words

@@ -2,3 +2,4 @@ pub mod Standing
 pub mod Footprint
 pub mod Steps
 pub mod Control
+pub mod Words

@@ -2,6 +2,7 @@
 
 ghost use Rattle.ownership.specs.Control.{ChangesControl, ReadsControl};
 ghost use Rattle.ownership.specs.Steps.{Follows, IsRow, IsStep, WritesOnly};
+ghost use Rattle.ownership.specs.Words.{LoadsWord, StoresWord};
 
 use chip_step::Bus;
 
@@ -26,4 +27,12 @@ pub fn script_writes_only<B: Bus>()
 pub fn only_data_moves_touch_data<B: Bus>()
     ensures changes { ChangesControl B.moves }
     ensures reads { ReadsControl B.moves }
+{}
+
+/// Where memory of bytes holds the script and the chip runs at a LOAD or a STORE of it, with DSA at a multiple of 4 and
+/// the head of a block from there on in memory, the step goes on: a LOAD has the word of memory in DSA, TEMP, SCRATCHA
+/// or SCRATCHB, a STORE has that register's word in memory, and the bus and all else stay.
+pub fn script_moves_words<B: Bus>()
+    ensures loads { LoadsWord B.moves }
+    ensures stores { StoresWord B.moves }
 {}
