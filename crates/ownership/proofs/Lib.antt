@@ -3,3 +3,4 @@ pub mod Steps
 pub mod Footprint
 pub mod Control
 pub mod Words
+pub mod Transfers

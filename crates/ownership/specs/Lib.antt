@@ -3,3 +3,4 @@ pub mod Footprint
 pub mod Steps
 pub mod Control
 pub mod Words
+pub mod Transfers

@@ -2,6 +2,7 @@
 
 ghost use Rattle.ownership.specs.Control.{ChangesControl, ReadsControl};
 ghost use Rattle.ownership.specs.Steps.{Follows, IsRow, IsStep, WritesOnly};
+ghost use Rattle.ownership.specs.Transfers.{Interrupts, JumpsTo, ReturnsTo, StopsWith};
 ghost use Rattle.ownership.specs.Words.{LoadsWord, StoresWord};
 
 use chip_step::Bus;
@@ -35,4 +36,14 @@ pub fn only_data_moves_touch_data<B: Bus>()
 pub fn script_moves_words<B: Bus>()
     ensures loads { LoadsWord B.moves }
     ensures stores { StoresWord B.moves }
+{}
+
+/// Where memory holds the script and the chip runs at a transfer of it that always holds, a JUMP goes to its address, a
+/// RETURN to the one in TEMP, INT stops with its vector and INTFLY sets its interrupt; memory, the bus and all other
+/// registers are as the fetch left them.
+pub fn script_transfers<B: Bus>()
+    ensures jumps { JumpsTo B.moves }
+    ensures returns { ReturnsTo B.moves }
+    ensures stops { StopsWith B.moves }
+    ensures interrupts { Interrupts B.moves }
 {}

@@ -3,4 +3,7 @@
 
 mod laws;
 
-pub use laws::{only_data_moves_touch_data, script_moves_words, script_steps, script_writes_only};
+pub use laws::{
+    only_data_moves_touch_data, script_moves_words, script_steps, script_transfers,
+    script_writes_only,
+};
