@@ -1,0 +1,6 @@
+pub mod Instructions
+pub mod Steps
+pub mod Footprint
+pub mod Control
+pub mod Words
+pub mod Transfers
