@@ -8,7 +8,7 @@ use Rattle.chip_regs.specs.declared.registers.Regs.{Regs}
 use Rattle.chip_step.specs.Event.{Event}
 use Rattle.chip_step.specs.Chip.{Chip}
 use Rattle.chip_step.specs.Step.{does, can_fetch, has_third, third_at, len_of, IsAt}
-use Rattle.chip_step.proofs.Made.{Ran-does}
+use Rattle.chip_step.proofs.Made.{ChipStep-does}
 use Rattle.driver_script.specs.Script.{instruction}
 use Rattle.driver_script.proofs.ScriptLaws.{loaded_spelled}
 use Rattle.ownership.specs.Standing.{StandsAt}
@@ -43,7 +43,7 @@ module _ {B : Type 0} where
   module _ (moves : B → Event → B → Type 0) where
     pub is_row : IsRow moves
     is_row version k word old end new s r =
-        Ran-does moves word old end new (instruction k version) s.running (can old.memory old.regs k s.size s.dsp s.inside) (stands_at version k old s) r
+        ChipStep-does moves word old end new (instruction k version) s.running (can old.memory old.regs k s.size s.dsp s.inside) (stands_at version k old s) r
 
     pub is_step : IsStep moves
     is_step version k word old end new s d =

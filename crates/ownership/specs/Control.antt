@@ -8,7 +8,7 @@ use Rattle.cmd_block.specs.declared.TheConstants.{MESSAGE}
 use Rattle.chip_step.specs.Event.{Event}
 use Rattle.chip_step.specs.Addresses.{place_of}
 use Rattle.chip_step.specs.Chip.{Chip}
-use Rattle.chip_step.specs.Step.{Ran}
+use Rattle.chip_step.specs.Step.{ChipStep}
 use Rattle.chip_step.specs.declared.outcome.StepEnd.{StepEnd}
 use Rattle.chip_rows.specs.Leaving.{ChangesWithin}
 use Rattle.chip_rows.specs.Reading.{SameWithin, ChangesAlike, with_memory}
@@ -33,13 +33,13 @@ control chip =
 abbrev pub ChangesControl : {B : Type 0} → (B → Event → B → Type 0) → Type 0
 ChangesControl {B} moves =
     (version k word : ℕ) (old : Chip B) (end : StepEnd) (new : Chip B) → StandsAt version k old → data_move (8 * k) ≡ None
-    → Ran moves word old end new → ChangesWithin (control old) old.memory new.memory
+    → ChipStep moves word old end new → ChangesWithin (control old) old.memory new.memory
 
 -- and depends on no other bytes, beside those of its instruction: it is made likewise over any memory with the same
 -- bytes in both
 abbrev pub ReadsControl : {B : Type 0} → (B → Event → B → Type 0) → Type 0
 ReadsControl {B} moves =
     (version k word : ℕ) (old : Chip B) (end : StepEnd) (new : Chip B) (memory : List ℕ) → StandsAt version k old → data_move (8 * k) ≡ None
-    → Ran moves word old end new → SameWithin (fetches old ++ control old) old.memory memory
-    → (memory' : List ℕ) × Ran moves word (with_memory memory old) end (with_memory memory' new)
+    → ChipStep moves word old end new → SameWithin (fetches old ++ control old) old.memory memory
+    → (memory' : List ℕ) × ChipStep moves word (with_memory memory old) end (with_memory memory' new)
     × ChangesAlike old.memory new.memory memory memory'

@@ -6,7 +6,7 @@ use Rattle.scripts_ops.specs.declared.values.Op.TheVariants.{Jump, Return, Int, 
 use Rattle.chip_regs.specs.declared.registers.Cause.TheVariants.{Sir}
 use Rattle.chip_step.specs.Event.{Event}
 use Rattle.chip_step.specs.Chip.{Chip, Becomes, Stops}
-use Rattle.chip_step.specs.Step.{Ran, after_fetch}
+use Rattle.chip_step.specs.Step.{ChipStep, after_fetch}
 use Rattle.chip_step.specs.declared.outcome.StepEnd.{StepEnd}
 use Rattle.driver_script.specs.Script.{instruction}
 use Rattle.ownership.specs.Standing.{StandsAt}
@@ -18,7 +18,7 @@ pub record StepsBy {B : Type 0} (moves : B → Event → B → Type 0) (op : Op)
   pub word : ℕ
   pub stands : StandsAt version k old
   pub here : instruction k version ≡ op
-  pub ran : Ran moves word old end new
+  pub ran : ChipStep moves word old end new
 
 module _ {B : Type 0} (moves : B → Event → B → Type 0) where
   -- a JUMP goes to its address, and a RETURN to the one in TEMP

@@ -3,15 +3,15 @@ use Rattle.std.proofs.Common.{◌≡◌, ℕ, zero, suc, ◌≤◌, Bool, false,
 use Rattle.std.specs.Prelude.{slice_get}
 use Rattle.unit_law.specs.declared.entry.LogEntry.{LogEntry}
 use Rattle.unit_law.specs.Log.{with_at}
-use Rattle.target_law.specs.declared.showing.NamePart.TheVariants as part
-use Rattle.target_law.specs.declared.showing.Note.{Note}
-use Rattle.target_law.specs.declared.showing.Note.TheVariants.{Name, Complete, SaveThenLeave, SaveNow, RestoreNow, LeaveNow}
-use Rattle.target_law.specs.declared.showing.Showing.{Showing}
-use Rattle.target_law.specs.declared.showing.Showing.TheVariants.{Choosing, Hearing, Sending, Receiving, Telling, Saying}
-use Rattle.target_law.specs.declared.showing.Verdict.{Verdict}
+use Rattle.target_law.specs.declared.task_phase.ReselectByte.TheVariants as part
+use Rattle.target_law.specs.declared.task_phase.TargetMessage.{TargetMessage}
+use Rattle.target_law.specs.declared.task_phase.TargetMessage.TheVariants.{Reselection, CommandComplete, SaveThenDisconnect, SaveDataPointer, RestorePointers, Disconnect}
+use Rattle.target_law.specs.declared.task_phase.TaskPhase.{TaskPhase}
+use Rattle.target_law.specs.declared.task_phase.TaskPhase.TheVariants.{ToChoose, MessageOut, DataIn, DataOut, Status, MessageIn}
+use Rattle.target_law.specs.declared.task_phase.Completion.{Completion}
 use Rattle.target_law.specs.Bytes.{Connection, advanced, one_less, put, byte_by, sent_by, took_by, heard_by}
 use Rattle.target_law.specs.Sound.{IsSound, IsReceiving, IsWorth}
-use Rattle.target_law.specs.Target.{LogicalUnit, Working, Target, unit_at, linked, session}
+use Rattle.target_law.specs.Target.{LogicalUnit, TaskConnected, Target, unit_at, linked, session}
 use Rattle.ticket_fate.specs.Tickets.{Plan, unit_of, Connected, Away, Ticket, view_for, ticket_sent}
 use Rattle.ticket_fate.specs.Fates.{HasTask, Fate, TicketKept}
 use Rattle.ticket_fate.specs.Linked.{IsPlan, UnitKept, ShownFits, IsAtWork, LinkKept, TargetKept}
@@ -47,7 +47,7 @@ again g x old k log e f same s r = record {
   before = same.1 ∙ s.before;
 }
 
-module _ (g : Plan) (count : ℕ) (plan : IsPlan g count) (i : ℕ) (tickets : ℕ → Ticket) (t : Target) (h : TargetKept g count i tickets t) (c : Connection) (working : t.link ≡ Working c) where
+module _ (g : Plan) (count : ℕ) (plan : IsPlan g count) (i : ℕ) (tickets : ℕ → Ticket) (t : Target) (h : TargetKept g count i tickets t) (c : Connection) (working : t.link ≡ TaskConnected c) where
   abbrev x : ℕ
   x = c.task.ticket
 
@@ -66,14 +66,14 @@ module _ (g : Plan) (count : ℕ) (plan : IsPlan g count) (i : ℕ) (tickets : �
   -- the connection goes on as another one, with its ticket changed
   pub goes-on : (k : Ticket) (d : Connection) → k.life ≡ Connected → k.task ≡ d.task → d.task.ticket ≡ x → d.lun ≡ c.lun → (k.since ≡ (tickets x).since) × (k.before ≡ (tickets x).before)
       → ((log : List LogEntry) → HasTask g.retries (g.requests x) (tickets x).tag (tickets x).tries (tickets x).buffer c.task (view_for g x log) → HasTask g.retries (g.requests x) k.tag k.tries k.buffer d.task (view_for g x log))
-      → ((u : LogicalUnit) → IsSound (session u c) → IsSound (session u d)) → ShownFits d.shows d.task → TargetKept g count i (with_at tickets x k) (linked t (Working d))
+      → ((u : LogicalUnit) → IsSound (session u c) → IsSound (session u d)) → ShownFits d.shows d.task → TargetKept g count i (with_at tickets x k) (linked t (TaskConnected d))
   goes-on k d life task own lun same runs sound worth = record {
     units = units-ticket-changed g count plan i tickets t h.units x k (λ u kept. unit-ticket-changed g tickets x k u (not-away (tickets x) at_work.life) (not-away k life)
         (again g x (tickets x) k u.log at_work.life life same (kept.each x refl)
         (λ r. subst (λ z. HasTask g.retries (g.requests x) k.tag k.tries k.buffer z (view_for g x u.log)) (sym task)
         (runs u.log (subst (λ z. HasTask g.retries (g.requests x) (tickets x).tag (tickets x).tries (tickets x).buffer z (view_for g x u.log)) at_work.task r))))
-        kept) (Working d);
-    link = work-is g i tickets x k (linked t (Working d)) d own at_work.target (lun ∙ at_work.lun) life task
+        kept) (TaskConnected d);
+    link = work-is g i tickets x k (linked t (TaskConnected d)) d own at_work.target (lun ∙ at_work.lun) life task
         (λ u e. sound u (at_work.sound u (ap (unit_at t.units) (sym lun) ∙ e))) worth;
   }
 
@@ -81,60 +81,60 @@ module _ (g : Plan) (count : ℕ) (plan : IsPlan g count) (i : ℕ) (tickets : �
   sound_now = at_work.sound own_unit at_lun_there
 
   -- a byte from the target: the host's place is the position
-  sent : (sh : Showing) → c.shows ≡ sh → (at b : ℕ) → at ≡ c.task.position → byte_by sh c.task c.lun ≡ Some b
-      → TargetKept g count i (with_at tickets x (ticket_sent sh at b (tickets x) (sent_by sh c).task)) (linked t (Working (sent_by sh c)))
-  sent Choosing e at b place byte = cc
-  sent Hearing e at b place byte = cc
-  sent (Receiving n) e at b place byte = cc
-  sent (Sending n) e at b place byte =
+  sent : (sh : TaskPhase) → c.shows ≡ sh → (at b : ℕ) → at ≡ c.task.position → byte_by sh c.task c.lun ≡ Some b
+      → TargetKept g count i (with_at tickets x (ticket_sent sh at b (tickets x) (sent_by sh c).task)) (linked t (TaskConnected (sent_by sh c)))
+  sent ToChoose e at b place byte = cc
+  sent MessageOut e at b place byte = cc
+  sent (DataOut n) e at b place byte = cc
+  sent (DataIn n) e at b place byte =
       let f : c.task.fresh ≡ false = subst (λ z. ShownFits z c.task) e at_work.worth in
-      goes-on (ticket_sent (Sending n) at b (tickets x) (sent_by (Sending n) c).task) (sent_by (Sending n) c) at_work.life refl refl refl (refl, refl)
+      goes-on (ticket_sent (DataIn n) at b (tickets x) (sent_by (DataIn n) c).task) (sent_by (DataIn n) c) at_work.life refl refl refl (refl, refl)
       (λ log r. subst (λ p. HasTask g.retries (g.requests x) (tickets x).tag (tickets x).tries (put (tickets x).buffer p b) (advanced c.task c.task.received) (view_for g x log)) (sym place)
       (given g.retries (g.requests x) (tickets x).tag (tickets x).tries (tickets x).buffer c.task (view_for g x log) own_unit.plain b (plan.accepted x) sound_now.task f r byte))
-      (λ u s. sent-sound (Sending n) u c b e s byte) (less n f)
+      (λ u s. sent-sound (DataIn n) u c b e s byte) (less n f)
     where
-      less : (n : ℕ) → c.task.fresh ≡ false → ShownFits (one_less n Sending) (advanced c.task c.task.received)
+      less : (n : ℕ) → c.task.fresh ≡ false → ShownFits (one_less n DataIn) (advanced c.task c.task.received)
       less zero f = tt
       less (suc zero) f = tt
       less (suc (suc n)) f = f
-  sent (Telling v) e at b place byte =
-      goes-on (ticket_sent (Telling v) at b (tickets x) (sent_by (Telling v) c).task) (sent_by (Telling v) c) at_work.life refl refl refl (refl, refl) (λ log r. r)
-      (λ u s. sent-sound (Telling v) u c b e s byte) (subst (λ z. ShownFits z c.task) e at_work.worth)
-  sent (Saying n s) e at b place byte =
-      goes-on (ticket_sent (Saying n s) at b (tickets x) (sent_by (Saying n s) c).task) (sent_by (Saying n s) c) at_work.life refl refl refl (refl, refl) (λ log r. r)
-      (λ u z. sent-sound (Saying n s) u c b e z byte) (subst (λ z. ShownFits z c.task) e at_work.worth)
+  sent (Status v) e at b place byte =
+      goes-on (ticket_sent (Status v) at b (tickets x) (sent_by (Status v) c).task) (sent_by (Status v) c) at_work.life refl refl refl (refl, refl) (λ log r. r)
+      (λ u s. sent-sound (Status v) u c b e s byte) (subst (λ z. ShownFits z c.task) e at_work.worth)
+  sent (MessageIn n s) e at b place byte =
+      goes-on (ticket_sent (MessageIn n s) at b (tickets x) (sent_by (MessageIn n s) c).task) (sent_by (MessageIn n s) c) at_work.life refl refl refl (refl, refl) (λ log r. r)
+      (λ u z. sent-sound (MessageIn n s) u c b e z byte) (subst (λ z. ShownFits z c.task) e at_work.worth)
 
   pub byte-in : (at b : ℕ) → at ≡ c.task.position → byte_by c.shows c.task c.lun ≡ Some b
-      → TargetKept g count i (with_at tickets x (ticket_sent c.shows at b (tickets x) (sent_by c.shows c).task)) (linked t (Working (sent_by c.shows c)))
+      → TargetKept g count i (with_at tickets x (ticket_sent c.shows at b (tickets x) (sent_by c.shows c).task)) (linked t (TaskConnected (sent_by c.shows c)))
   byte-in at b place byte = sent c.shows refl at b place byte
 
   -- a byte to the target in its data phase: the byte of the buffer at the host's place
-  pub byte-out : (n at b : ℕ) → c.shows ≡ Receiving n → at ≡ c.task.position → slice_get (tickets x).buffer at ≡ Some b
-      → TargetKept g count i (with_at tickets x (record (tickets x) { task = (took_by (Receiving n) c b).task })) (linked t (Working (took_by (Receiving n) c b)))
+  pub byte-out : (n at b : ℕ) → c.shows ≡ DataOut n → at ≡ c.task.position → slice_get (tickets x).buffer at ≡ Some b
+      → TargetKept g count i (with_at tickets x (record (tickets x) { task = (took_by (DataOut n) c b).task })) (linked t (TaskConnected (took_by (DataOut n) c b)))
   byte-out n at b e place byte =
       let f : c.task.fresh ≡ false = subst (λ z. ShownFits z c.task) e at_work.worth in
       let w : IsReceiving (session own_unit c) n = subst (λ z. IsWorth z (session own_unit c)) e sound_now.worth in
-      goes-on (record (tickets x) { task = (took_by (Receiving n) c b).task }) (took_by (Receiving n) c b) at_work.life refl refl refl (refl, refl)
+      goes-on (record (tickets x) { task = (took_by (DataOut n) c b).task }) (took_by (DataOut n) c b) at_work.life refl refl refl (refl, refl)
       (λ log r. taken g.retries (g.requests x) (tickets x).tag (tickets x).tries (tickets x).buffer c.task (view_for g x log) own_unit.plain b (plan.accepted x) sound_now.task f w.way
       (receiving-place (session own_unit c) n sound_now w) r (ap (slice_get (tickets x).buffer) (sym place) ∙ byte))
       (λ u s. took-sound n u c b e s) (less n f)
     where
-      less : (n : ℕ) → c.task.fresh ≡ false → ShownFits (one_less n Receiving) (advanced c.task (put c.task.received c.task.position b))
+      less : (n : ℕ) → c.task.fresh ≡ false → ShownFits (one_less n DataOut) (advanced c.task (put c.task.received c.task.position b))
       less zero f = tt
       less (suc zero) f = tt
       less (suc (suc n)) f = f
 
   -- a message is acknowledged that leaves the task connected
-  pub heard : (n : Note) (s : Bool) → c.shows ≡ Saying n s → ((v : Verdict) → n ≡ Complete v → ⊥) → (n ≡ LeaveNow → ⊥)
-      → TargetKept g count i (with_at tickets x (record (tickets x) { task = (heard_by n c).task })) (linked t (Working (heard_by n c)))
-  heard (Name part.Lun) s e d f = goes-on (record (tickets x) { task = c.task }) (heard_by (Name part.Lun) c) at_work.life refl refl refl (refl, refl) (λ log r. r) (λ u z. heard-sound (Name part.Lun) s u c e z) tt
-  heard (Name part.Queue) s e d f = goes-on (record (tickets x) { task = c.task }) (heard_by (Name part.Queue) c) at_work.life refl refl refl (refl, refl) (λ log r. r) (λ u z. heard-sound (Name part.Queue) s u c e z) tt
-  heard (Name part.Tag) s e d f = goes-on (record (tickets x) { task = c.task }) (heard_by (Name part.Tag) c) at_work.life refl refl refl (refl, refl) (λ log r. r) (λ u z. heard-sound (Name part.Tag) s u c e z) tt
-  heard (Complete v) s e d f = absurd (d v refl)
-  heard LeaveNow s e d f = absurd (f refl)
-  heard SaveThenLeave s e d f = goes-on (record (tickets x) { task = (heard_by SaveThenLeave c).task }) (heard_by SaveThenLeave c) at_work.life refl refl refl (refl, refl)
-      (λ log r. pointed g.retries (g.requests x) _ _ _ c.task _ c.task.position c.task.position c.task.just_moved r) (λ u z. heard-sound SaveThenLeave s u c e z) tt
-  heard SaveNow s e d f = goes-on (record (tickets x) { task = (heard_by SaveNow c).task }) (heard_by SaveNow c) at_work.life refl refl refl (refl, refl)
-      (λ log r. pointed g.retries (g.requests x) _ _ _ c.task _ c.task.position c.task.position c.task.just_moved r) (λ u z. heard-sound SaveNow s u c e z) tt
-  heard RestoreNow s e d f = goes-on (record (tickets x) { task = (heard_by RestoreNow c).task }) (heard_by RestoreNow c) at_work.life refl refl refl (refl, refl)
-      (λ log r. pointed g.retries (g.requests x) _ _ _ c.task _ c.task.saved c.task.saved c.task.just_moved r) (λ u z. heard-sound RestoreNow s u c e z) tt
+  pub heard : (n : TargetMessage) (s : Bool) → c.shows ≡ MessageIn n s → ((v : Completion) → n ≡ CommandComplete v → ⊥) → (n ≡ Disconnect → ⊥)
+      → TargetKept g count i (with_at tickets x (record (tickets x) { task = (heard_by n c).task })) (linked t (TaskConnected (heard_by n c)))
+  heard (Reselection part.Identify) s e d f = goes-on (record (tickets x) { task = c.task }) (heard_by (Reselection part.Identify) c) at_work.life refl refl refl (refl, refl) (λ log r. r) (λ u z. heard-sound (Reselection part.Identify) s u c e z) tt
+  heard (Reselection part.SimpleQueueTag) s e d f = goes-on (record (tickets x) { task = c.task }) (heard_by (Reselection part.SimpleQueueTag) c) at_work.life refl refl refl (refl, refl) (λ log r. r) (λ u z. heard-sound (Reselection part.SimpleQueueTag) s u c e z) tt
+  heard (Reselection part.Tag) s e d f = goes-on (record (tickets x) { task = c.task }) (heard_by (Reselection part.Tag) c) at_work.life refl refl refl (refl, refl) (λ log r. r) (λ u z. heard-sound (Reselection part.Tag) s u c e z) tt
+  heard (CommandComplete v) s e d f = absurd (d v refl)
+  heard Disconnect s e d f = absurd (f refl)
+  heard SaveThenDisconnect s e d f = goes-on (record (tickets x) { task = (heard_by SaveThenDisconnect c).task }) (heard_by SaveThenDisconnect c) at_work.life refl refl refl (refl, refl)
+      (λ log r. pointed g.retries (g.requests x) _ _ _ c.task _ c.task.position c.task.position c.task.just_moved r) (λ u z. heard-sound SaveThenDisconnect s u c e z) tt
+  heard SaveDataPointer s e d f = goes-on (record (tickets x) { task = (heard_by SaveDataPointer c).task }) (heard_by SaveDataPointer c) at_work.life refl refl refl (refl, refl)
+      (λ log r. pointed g.retries (g.requests x) _ _ _ c.task _ c.task.position c.task.position c.task.just_moved r) (λ u z. heard-sound SaveDataPointer s u c e z) tt
+  heard RestorePointers s e d f = goes-on (record (tickets x) { task = (heard_by RestorePointers c).task }) (heard_by RestorePointers c) at_work.life refl refl refl (refl, refl)
+      (λ log r. pointed g.retries (g.requests x) _ _ _ c.task _ c.task.saved c.task.saved c.task.just_moved r) (λ u z. heard-sound RestorePointers s u c e z) tt

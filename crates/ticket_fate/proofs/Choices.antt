@@ -3,17 +3,17 @@ use Rattle.std.proofs.Common.{◌≡◌, ℕ, zero, suc, ◌+◌, ◌-◌, Bool,
 use Rattle.scsi_words.specs.declared.phases.kinds.Direction.{Direction}
 use Rattle.scsi_words.specs.declared.phases.kinds.Direction.TheVariants.{In, Out, None as NoData}
 use Rattle.cdb_codec.specs.Forms.{need_of}
-use Rattle.plain_lun.specs.Unit.{Plain}
+use Rattle.plain_lun.specs.Unit.{UnitState}
 use Rattle.plain_lun.specs.Performing.{Answered, perform}
 use Rattle.unit_law.specs.declared.entry.LogEntry.TheVariants.{Look}
-use Rattle.unit_law.specs.Request.{PlainRequest, command, received_of}
+use Rattle.unit_law.specs.Request.{RequestData, command, received_of}
 use Rattle.unit_law.specs.Log.{run_log, performs as ran_performs, View}
 use Rattle.unit_law.specs.Report.{holding, data_of}
 use Rattle.unit_law.proofs.Views.{run-push, tally-look, with_at-same}
 use Rattle.target_law.specs.declared.moves.Move.{Move}
 use Rattle.target_law.specs.declared.moves.Move.TheVariants as move
-use Rattle.target_law.specs.declared.showing.Showing.{Showing}
-use Rattle.target_law.specs.declared.showing.Showing.TheVariants.{Sending, Receiving}
+use Rattle.target_law.specs.declared.task_phase.TaskPhase.{TaskPhase}
+use Rattle.target_law.specs.declared.task_phase.TaskPhase.TheVariants.{DataIn, DataOut}
 use Rattle.target_law.specs.Session.{Task, Session, remaining, acted, gone, phased, looked, looked_by, moves, performs}
 use Rattle.target_law.specs.Sound.{HasMoved, IsSoundTask}
 use Rattle.ticket_fate.specs.Tickets.{Plan, unit_of, opening, view_for}
@@ -23,7 +23,7 @@ use Rattle.ticket_fate.proofs.TicketSteps.{held-none}
 use Rattle.ticket_fate.proofs.ReceivedBytes.{perform-same}
 
 -- a choice changes the budget and what was done last
-pub unfresh : (n : ℕ) (r : PlainRequest) (tag tries : ℕ) (buffer : List ℕ) (x : Task) (v : View) (budget : ℕ) (just : Bool)
+pub unfresh : (n : ℕ) (r : RequestData) (tag tries : ℕ) (buffer : List ℕ) (x : Task) (v : View) (budget : ℕ) (just : Bool)
     → HasTask n r tag tries buffer x v → HasTask n r tag tries buffer (record x { budget = budget; fresh = false; just_moved = just }) v
 unfresh n r tag tries buffer x v budget just q = record {
   tag = q.tag;
@@ -47,7 +47,7 @@ unfresh n r tag tries buffer x v budget just q = record {
 pub unmoved : (w : Direction) (d e : List ℕ) (h : ℕ) (sub : List ℕ) → h ≡ 0 → holding w d h sub ≡ holding w e h sub
 unmoved w d e h sub z = ap (λ n. holding w d n sub) z ∙ held-none w d sub ∙ sym (held-none w e sub) ∙ ap (λ n. holding w e n sub) (sym z)
 
-none-moved : (d : Direction) (o : Option Answered) (u : Plain) (k : Task) → d ≡ In → o ≡ None → HasMoved d o u k → k.high ≡ 0
+none-moved : (d : Direction) (o : Option Answered) (u : UnitState) (k : Task) → d ≡ In → o ≡ None → HasMoved d o u k → k.high ≡ 0
 none-moved In (Some a) u k e f m = cc
 none-moved In None u k e f m = m.0
 none-moved Out o u k e f m = cc
@@ -67,7 +67,7 @@ module _ (g : Plan) (t named tries : ℕ) (buffer : List ℕ) (x : Session) (own
     (q : HasTask g.retries (g.requests t) named tries buffer x.task (view_for g t x.log))
     (p : x.unit ≡ (run_log g.requests (opening g (unit_of g t)) x.log).unit)
     (i : IsSoundTask x.unit x.task) where
-  idle : (budget : ℕ) (just : Bool) (sh : Showing)
+  idle : (budget : ℕ) (just : Bool) (sh : TaskPhase)
       → Follows g t named tries buffer x (record x { task = record x.task { budget = budget; fresh = false; just_moved = just }; shows = sh })
   idle budget just sh = record {
     grows = inl refl;
@@ -79,7 +79,7 @@ module _ (g : Plan) (t named tries : ℕ) (buffer : List ℕ) (x : Session) (own
     clears = refl;
   }
 
-  looks : (sh : Showing) → (need_of x.task.cdb).direction ≡ In → x.task.kept ≡ None → Follows g t named tries buffer x (moves (performs x (perform x.unit x.task.cdb [])) sh)
+  looks : (sh : TaskPhase) → (need_of x.task.cdb).direction ≡ In → x.task.kept ≡ None → Follows g t named tries buffer x (moves (performs x (perform x.unit x.task.cdb [])) sh)
   looks sh d n =
       let a = perform x.unit x.task.cdb [] in
       let old = run_log g.requests (opening g (unit_of g t)) x.log in
@@ -117,18 +117,18 @@ module _ (g : Plan) (t named tries : ℕ) (buffer : List ℕ) (x : Session) (own
         clears = ap (λ w. w.clears) v;
       })
 
-  looks_by : (b : Bool) (sh : Showing) → x.task.senses ≡ b → (need_of x.task.cdb).direction ≡ In → x.task.kept ≡ None
+  looks_by : (b : Bool) (sh : TaskPhase) → x.task.senses ≡ b → (need_of x.task.cdb).direction ≡ In → x.task.kept ≡ None
       → Follows g t named tries buffer x (moves (looked_by b x (perform x.unit x.task.cdb [])) sh)
   looks_by true sh e d n = let f = q.plain in cc
   looks_by false sh e d n = looks sh d n
 
-  looks_at : (o : Option Answered) (sh : Showing) → x.task.kept ≡ o → (need_of x.task.cdb).direction ≡ In → Follows g t named tries buffer x (moves (looked o x) sh)
+  looks_at : (o : Option Answered) (sh : TaskPhase) → x.task.kept ≡ o → (need_of x.task.cdb).direction ≡ In → Follows g t named tries buffer x (moves (looked o x) sh)
   looks_at (Some a) sh e d = idle x.task.budget true sh
   looks_at None sh e d = looks_by x.task.senses sh refl d e
 
   phases : (d : Direction) (n : ℕ) → (need_of x.task.cdb).direction ≡ d → Follows g t named tries buffer x (phased d x n)
-  phases In n e = looks_at x.task.kept (Sending n) refl e
-  phases Out n e = idle x.task.budget true (Receiving n)
+  phases In n e = looks_at x.task.kept (DataIn n) refl e
+  phases Out n e = idle x.task.budget true (DataOut n)
   phases NoData n e = record { grows = inl refl; runs = q; plain = p; position = refl; saved = refl; ticket = refl; clears = refl }
 
   goes : (left n : ℕ) → Follows g t named tries buffer x (gone left x n)

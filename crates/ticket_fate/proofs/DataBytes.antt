@@ -6,10 +6,10 @@ use Rattle.std.proofs.lemmas.Option.{slice_get_within}
 use Rattle.scsi_words.specs.declared.phases.kinds.Direction.{Direction}
 use Rattle.scsi_words.specs.declared.phases.kinds.Direction.TheVariants.{In, Out, None as NoData}
 use Rattle.cdb_codec.specs.Forms.{need_of}
-use Rattle.plain_lun.specs.Unit.{Plain}
+use Rattle.plain_lun.specs.Unit.{UnitState}
 use Rattle.plain_lun.specs.Performing.{Answered, wants_now}
 use Rattle.plain_lun.proofs.Laws.{wants-most}
-use Rattle.unit_law.specs.Request.{PlainRequest, command, received_of}
+use Rattle.unit_law.specs.Request.{RequestData, command, received_of}
 use Rattle.unit_law.specs.Log.{View}
 use Rattle.unit_law.specs.Report.{holding, data_of}
 use Rattle.target_law.specs.Session.{Task}
@@ -20,7 +20,7 @@ use Rattle.ticket_fate.specs.Fates.{HasTask}
 use Rattle.ticket_fate.proofs.Buffers.{filled-put, taken-put, get-take}
 
 -- a command that has something to send is kept and sends
-sends-data : (d : Direction) (o : Option Answered) (u : Plain) (k : Task) (p b : ℕ) → HasMoved d o u k → data_at o p ≡ Some b
+sends-data : (d : Direction) (o : Option Answered) (u : UnitState) (k : Task) (p b : ℕ) → HasMoved d o u k → data_at o p ≡ Some b
     → (d ≡ In) × (k.high ≤ length (data_of o)) × (length (data_of o) ≤ (need_of k.cdb).bytes) × (slice_get (data_of o) p ≡ Some b)
 sends-data In (Some a) u k p b m e = (refl, m.0, m.1, e)
 sends-data In None u k p b m e = cc
@@ -30,13 +30,13 @@ sends-data NoData (Some a) u k p b m e = absurd m
 sends-data NoData None u k p b m e = cc
 
 -- the buffer's way is the command's, where it needs a byte
-pub same-way : (r : PlainRequest) (x : Task) (d : Direction) → IsAccepted r → x.cdb ≡ command r → 0 < (need_of x.cdb).bytes → (need_of x.cdb).direction ≡ d → r.direction ≡ d
+pub same-way : (r : RequestData) (x : Task) (d : Direction) → IsAccepted r → x.cdb ≡ command r → 0 < (need_of x.cdb).bytes → (need_of x.cdb).direction ≡ d → r.direction ≡ d
 same-way r x d a e n w =
     let some : 0 < (need_of (command r)).bytes = subst (λ c. 0 < (need_of c).bytes) e n in
     sym (a.way some) ∙ sym (ap (λ c. (need_of c).direction) e) ∙ w
 
 -- a byte that the task had goes to its place in the buffer
-pub given : (n : ℕ) (r : PlainRequest) (named tries : ℕ) (buffer : List ℕ) (x : Task) (v : View) (u : Plain) (b : ℕ) → IsAccepted r → IsSoundTask u x → x.fresh ≡ false
+pub given : (n : ℕ) (r : RequestData) (named tries : ℕ) (buffer : List ℕ) (x : Task) (v : View) (u : UnitState) (b : ℕ) → IsAccepted r → IsSoundTask u x → x.fresh ≡ false
     → HasTask n r named tries buffer x v → data_at x.kept x.position ≡ Some b → HasTask n r named tries (put buffer x.position b) (advanced x x.received) v
 given n r named tries buffer x v u b a i f q e =
     let m = sends-data (need_of x.cdb).direction x.kept u x x.position b i.moved e in
@@ -64,14 +64,14 @@ given n r named tries buffer x v u b a i f q e =
     }
 
 -- what was received by then
-unkept-length : (d : Direction) (o : Option Answered) (u : Plain) (k : Task) → d ≡ Out → HasMoved d o u k → (o ≡ None) × (k.high ≡ length k.received) × (length k.received ≤ (wants_now u k.cdb).bytes)
+unkept-length : (d : Direction) (o : Option Answered) (u : UnitState) (k : Task) → d ≡ Out → HasMoved d o u k → (o ≡ None) × (k.high ≡ length k.received) × (length k.received ≤ (wants_now u k.cdb).bytes)
 unkept-length In o u k e m = cc
 unkept-length Out (Some a) u k e m = absurd m
 unkept-length Out None u k e m = (refl, m.0, m.1)
 unkept-length NoData o u k e m = cc
 
 -- byte `position` of the buffer goes to a write
-pub taken : (n : ℕ) (r : PlainRequest) (named tries : ℕ) (buffer : List ℕ) (x : Task) (v : View) (u : Plain) (b : ℕ) → IsAccepted r → IsSoundTask u x → x.fresh ≡ false
+pub taken : (n : ℕ) (r : RequestData) (named tries : ℕ) (buffer : List ℕ) (x : Task) (v : View) (u : UnitState) (b : ℕ) → IsAccepted r → IsSoundTask u x → x.fresh ≡ false
     → (need_of x.cdb).direction ≡ Out → x.position < (wants_now u x.cdb).bytes
     → HasTask n r named tries buffer x v → slice_get buffer x.position ≡ Some b → HasTask n r named tries buffer (advanced x (put x.received x.position b)) v
 taken n r named tries buffer x v u b a i f o l q e =
@@ -104,7 +104,7 @@ taken n r named tries buffer x v u b a i f o l q e =
     }
 
 -- other pointers: what was saved and where it stands
-pub pointed : (n : ℕ) (r : PlainRequest) (named tries : ℕ) (buffer : List ℕ) (x : Task) (v : View) (position saved : ℕ) (just : Bool)
+pub pointed : (n : ℕ) (r : RequestData) (named tries : ℕ) (buffer : List ℕ) (x : Task) (v : View) (position saved : ℕ) (just : Bool)
     → HasTask n r named tries buffer x v → HasTask n r named tries buffer (record x { position = position; saved = saved; just_moved = just }) v
 pointed n r named tries buffer x v position saved just q = record {
   tag = q.tag;

@@ -9,17 +9,17 @@ use Rattle.scsi_words.specs.Statuses.{status_code}
 use Rattle.cdb_codec.specs.Forms.{need_of}
 use Rattle.rig_types.specs.declared.report.Outcome.TheVariants.{Done}
 use Rattle.rig_types.specs.declared.report.Report.{Report}
-use Rattle.plain_lun.specs.Unit.{Plain}
+use Rattle.plain_lun.specs.Unit.{UnitState}
 use Rattle.plain_lun.specs.Performing.{Answered, Performed, perform, wants_now}
 use Rattle.plain_lun.specs.Losing.{dropped}
 use Rattle.plain_lun.proofs.Laws.{wants-most, wants-good, status-same, good_or_check, sends, gives-none}
 use Rattle.unit_law.specs.declared.entry.LogEntry.{LogEntry}
 use Rattle.unit_law.specs.declared.entry.LogEntry.TheVariants.{Refuse, End, Drop}
-use Rattle.unit_law.specs.Request.{PlainRequest, command, received_of}
-use Rattle.unit_law.specs.Log.{Ran, run_log, ended as ran_ended}
+use Rattle.unit_law.specs.Request.{RequestData, command, received_of}
+use Rattle.unit_law.specs.Log.{LogResult, run_log, ended as ran_ended}
 use Rattle.unit_law.specs.Report.{ByLoss, holding, moved, if_good, data_of, no_status}
 use Rattle.unit_law.proofs.Views.{run-push, tally-end, tally-refuse, tally-drop, with_at-same}
-use Rattle.target_law.specs.declared.showing.Verdict.TheVariants.{Answered as HasAnswered, Refused}
+use Rattle.target_law.specs.declared.task_phase.Completion.TheVariants.{Answered as HasAnswered, Refused}
 use Rattle.target_law.specs.Session.{Task, Session, remaining, total_of, status_of, status_by, closed, closed_by, ended}
 use Rattle.target_law.specs.Sound.{HasMoved, IsSoundTask}
 use Rattle.ticket_fate.specs.Tickets.{Plan, unit_of, opening, Connected, Rejected, Finished, Ticket, with_life, view_for, IsAccepted}
@@ -51,13 +51,13 @@ left_over Conflict size lastp m f = omega arith
 left_over QueueFull size lastp m f = omega arith
 
 -- what the end of a task gives, and what it has moved by then
-pub record Closed (r : PlainRequest) (plain : Plain) (at : ℕ) (after : Ran) (t : ℕ) (buffer : List ℕ) (st : Status) : Type 0 where
+pub record Closed (r : RequestData) (plain : UnitState) (at : ℕ) (after : LogResult) (t : ℕ) (buffer : List ℕ) (st : Status) : Type 0 where
   pub unit : plain ≡ after.unit
   pub given : (a : Answered) × (after.answers t ≡ Some a) × (st ≡ a.status) × (a.status ≡ Good → at ≡ moved r.direction a.bytes (need_of (command r)).bytes)
       × (buffer ≡ holding r.direction a.bytes (length a.bytes) r.bytes)
 
 -- what has moved at the end, by the direction
-abbrev AllMoved : Direction → Option Answered → Plain → Task → Type 0
+abbrev AllMoved : Direction → Option Answered → UnitState → Task → Type 0
 AllMoved In (Some a) u k = (k.high ≡ length a.bytes) × (k.position ≡ length a.bytes) × (length a.bytes ≤ (need_of k.cdb).bytes)
 AllMoved In None u k = (k.high ≡ 0) × (k.position ≡ 0) × ((wants_now u k.cdb).bytes ≡ 0)
 AllMoved Out (Some a) u k = ⊥
@@ -65,7 +65,7 @@ AllMoved Out None u k = (k.high ≡ (wants_now u k.cdb).bytes) × (k.position �
 AllMoved NoData (Some a) u k = ⊥
 AllMoved NoData None u k = (k.high ≡ 0) × (k.position ≡ 0)
 
-all-moved : (d : Direction) (o : Option Answered) (u : Plain) (k : Task) → k.position ≤ k.high → total_of o (wants_now u k.cdb).bytes - k.position ≡ 0 → HasMoved d o u k → AllMoved d o u k
+all-moved : (d : Direction) (o : Option Answered) (u : UnitState) (k : Task) → k.position ≤ k.high → total_of o (wants_now u k.cdb).bytes - k.position ≡ 0 → HasMoved d o u k → AllMoved d o u k
 all-moved In (Some a) u k p z m = let l = m.0 in (omega arith, omega arith, m.1)
 all-moved In None u k p z m = let l = m.0 in (omega arith, omega arith, omega arith)
 all-moved Out (Some a) u k p z m = m
@@ -76,10 +76,10 @@ all-moved NoData None u k p z m = let l = m.0 in (omega arith, omega arith)
 module _ (g : Plan) (t named tries : ℕ) (buffer : List ℕ) (x : Session) (a : IsAccepted (g.requests t))
     (q : HasTask g.retries (g.requests t) named tries buffer x.task (view_for g t x.log))
     (p : x.unit ≡ (run_log g.requests (opening g (unit_of g t)) x.log).unit) where
-  abbrev old : Ran
+  abbrev old : LogResult
   old = run_log g.requests (opening g (unit_of g t)) x.log
 
-  abbrev r : PlainRequest
+  abbrev r : RequestData
   r = g.requests t
 
   abbrev now : List ℕ → Performed
@@ -286,7 +286,7 @@ module _ (g : Plan) (t : ℕ) (k : Ticket) (x : Task) (log : List LogEntry) (q :
             ∙ ap (λ y. holding (g.requests t).direction (data_of (view_for g t (log ++ Drop t x.high ∷ [])).answer) y (g.requests t).bytes) (sym (ap (λ y. y.high) v));
       }
 
-  pub drop-plain : (u : Plain) → u ≡ (run_log g.requests (opening g (unit_of g t)) log).unit → dropped u x.cdb x.received ≡ (run_log g.requests (opening g (unit_of g t)) (log ++ Drop t x.high ∷ [])).unit
+  pub drop-plain : (u : UnitState) → u ≡ (run_log g.requests (opening g (unit_of g t)) log).unit → dropped u x.cdb x.received ≡ (run_log g.requests (opening g (unit_of g t)) (log ++ Drop t x.high ∷ [])).unit
   drop-plain u p =
       dropped-same u x.cdb x.received (take x.high (received_of (g.requests t))) q.received
       ∙ ap (λ c. dropped u c (take x.high (received_of (g.requests t)))) q.cdb

@@ -4,13 +4,13 @@ use Rattle.rig_types.specs.declared.report.Outcome.{Outcome}
 use Rattle.rig_types.specs.declared.report.Outcome.TheVariants.{Done, Cut, Reset, NoTarget, Broken}
 use Rattle.rig_types.specs.declared.report.Report.{Report}
 use Rattle.unit_law.specs.declared.entry.LogEntry.{LogEntry}
-use Rattle.unit_law.specs.Request.{PlainRequest}
+use Rattle.unit_law.specs.Request.{RequestData}
 use Rattle.unit_law.specs.Log.{View, with_at, run_log, tally}
-use Rattle.unit_law.specs.Report.{Setting, Fits, By}
+use Rattle.unit_law.specs.Report.{UnitSetting, Fits, By}
 use Rattle.unit_law.proofs.Views.{with_at-same, with_at-other, same_or_not}
 use Rattle.target_law.specs.Session.{Task}
 use Rattle.target_law.specs.Sound.{IsWaiting}
-use Rattle.target_law.specs.Target.{LogicalUnit, Free, Target, unit_at, unit_opened}
+use Rattle.target_law.specs.Target.{LogicalUnit, BusFree, Target, unit_at, unit_opened}
 use Rattle.logs_have_room.specs.Room.{entries}
 use Rattle.ticket_fate.specs.Tickets.{Plan, unit_of, opening, setting, Life, Unbuilt, Built, Linked, ToRequeue, Waits, Selected, Connected, Away, Lost, Rejected, Finished, Checked, Asks, AskStarts, AskConnected, AskLost, Asked, AtRogue, Ended, Unlinked, Freed, Ticket, course_at, report_of, view_for}
 use Rattle.ticket_fate.specs.Fates.{ReportFits, FreedReportFits, Fate, NeedsNone, TicketKept}
@@ -19,7 +19,7 @@ use Rattle.ticket_fate.specs.Moves.{marked_ticket}
 use Rattle.ticket_fate.specs.Kept.{AllKept}
 use Rattle.ticket_fate.proofs.Views.{each-changed}
 
-by-marked : (o : Outcome) (s : Setting) (r : PlainRequest) (v : View) (m b : Bool) (clears outside : ℕ) (q : Report) → By o s r v (course_at m clears b outside) q → By o s r v (course_at true clears b outside) q
+by-marked : (o : Outcome) (s : UnitSetting) (r : RequestData) (v : View) (m b : Bool) (clears outside : ℕ) (q : Report) → By o s r v (course_at m clears b outside) q → By o s r v (course_at true clears b outside) q
 by-marked Done s r v m b clears outside q h = h
 by-marked Cut s r v m b clears outside q h = (h.0, refl)
 by-marked Reset s r v m b clears outside q h = h
@@ -107,7 +107,7 @@ unit-opens g n ks none zeros unlogged = record {
   waiting = λ x e a. absurd (let q : Unbuilt ≡ Away = sym (none x) ∙ a in cc);
 }
 
-pub opens : (g : Plan) (count : ℕ) (ks : ℕ → Ticket) (ts : ℕ → Target) → ((x : ℕ) → (ks x).life ≡ Unbuilt) → ((x : ℕ) → (ks x).since ≡ 0) → ((x : ℕ) → (ks x).before ≡ 0) → ((i : ℕ) → (ts i).link ≡ Free)
+pub opens : (g : Plan) (count : ℕ) (ks : ℕ → Ticket) (ts : ℕ → Target) → ((x : ℕ) → (ks x).life ≡ Unbuilt) → ((x : ℕ) → (ks x).since ≡ 0) → ((x : ℕ) → (ks x).before ≡ 0) → ((i : ℕ) → (ts i).link ≡ BusFree)
     → ((n : ℕ) → n < count → unit_at (ts (g.units n).target).units (g.units n).lun ≡ Some (unit_opened (g.units n))) → AllKept g count ks ts
 opens g count ks ts none zeros unlogged free there = record {
   each = λ i. record {

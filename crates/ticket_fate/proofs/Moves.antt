@@ -3,25 +3,26 @@ use Rattle.std.proofs.Common.{◌≡◌, ◌≢◌, ℕ, ◌+◌, ◌-◌, ◌<�
 use Rattle.rig_types.specs.declared.report.Outcome.{Outcome}
 use Rattle.rig_types.specs.declared.report.Outcome.TheVariants.{Done, Cut, Reset, NoTarget, Broken}
 use Rattle.rig_types.specs.declared.report.Report.{Report}
-use Rattle.unit_law.specs.Report.{Setting, By}
+use Rattle.unit_law.specs.Report.{UnitSetting, By}
 use Rattle.logs_have_room.specs.Room.{entries}
 use Rattle.unit_law.specs.declared.entry.LogEntry.{LogEntry}
 use Rattle.unit_law.specs.Log.{View, with_at}
 use Rattle.unit_law.proofs.Views.{with_at-same, with_at-other, same_or_not, ne-test, eq-test}
 use Rattle.target_law.specs.declared.moves.Move.{Move}
-use Rattle.target_law.specs.declared.showing.Showing.{Showing}
-use Rattle.target_law.specs.declared.showing.Showing.TheVariants.{Choosing, Hearing, Sending, Receiving, Telling, Saying}
-use Rattle.target_law.specs.declared.showing.NamePart.TheVariants as part
-use Rattle.target_law.specs.declared.showing.Note.{Note}
-use Rattle.target_law.specs.declared.showing.Note.TheVariants.{Name, Complete, SaveThenLeave, SaveNow, RestoreNow, LeaveNow}
-use Rattle.target_law.specs.declared.showing.Verdict.{Verdict}
-use Rattle.target_law.specs.declared.showing.Verdict.TheVariants.{Answered as HasAnswered, Refused}
-use Rattle.unit_law.specs.Request.{PlainRequest, command}
+use Rattle.target_law.specs.declared.task_phase.TaskPhase.{TaskPhase}
+use Rattle.target_law.specs.declared.task_phase.TaskPhase.TheVariants.{ToChoose, MessageOut, DataIn, DataOut, Status, MessageIn}
+use Rattle.target_law.specs.declared.task_phase.ReselectByte.TheVariants as part
+use Rattle.target_law.specs.declared.task_phase.TargetMessage.{TargetMessage}
+use Rattle.target_law.specs.declared.task_phase.TargetMessage.TheVariants.{Reselection, CommandComplete, SaveThenDisconnect, SaveDataPointer, RestorePointers, Disconnect}
+use Rattle.target_law.specs.declared.task_phase.Completion.{Completion}
+use Rattle.target_law.specs.declared.task_phase.Completion.TheVariants.{Answered as HasAnswered, Refused}
+use Rattle.unit_law.specs.Request.{RequestData, command}
 use Rattle.ticket_fate.proofs.TaskLists.{away-at}
 use Rattle.ticket_fate.proofs.Choices.{follows}
 use Rattle.target_law.specs.Session.{Session, acted, began}
 use Rattle.target_law.specs.Bytes.{Connection, sent_by, heard_by}
-use Rattle.target_law.specs.Target.{LogicalUnit, Link, Free, Greeted, Commanded, Working, Straying, Target, unit_at, session, linked, parted, target_reset, goes_on}
+use Rattle.target_law.specs.Target as connection_state
+use Rattle.target_law.specs.Target.{LogicalUnit, ConnectionState, BusFree, TakingCommand, TaskConnected, RogueConnected, Target, unit_at, session, linked, parted, target_reset, goes_on}
 use Rattle.target_law.specs.Calls.{target_acted, acted_by, begun, has_ended, task_reselected}
 use Rattle.ticket_fate.specs.Tickets.{Plan, unit_of, Life, Unbuilt, Built, Linked, ToRequeue, Waits, Selected, Connected, Away, Lost, Rejected, Finished, Checked, Asks, AskStarts, AskConnected, AskLost, Asked, AtRogue, Ended, Unlinked, Freed, Ticket, setting, course_at, freed_ticket, view_for}
 use Rattle.ticket_fate.specs.Fates.{ReportFits, FreedReportFits, TicketKept}
@@ -36,14 +37,14 @@ use Rattle.ticket_fate.proofs.Marks.{unit-same-life, marked-kept}
 use Rattle.ticket_fate.proofs.Resets.{idle-reset, work-reset, link-agrees, unit-agrees}
 
 -- how many entries lie outside a ticket's life is no matter of the cases
-by-outside : (o : Outcome) (s : Setting) (r : PlainRequest) (v : View) (m b : Bool) (clears few many : ℕ) (q : Report) → By o s r v (course_at m clears b few) q → By o s r v (course_at m clears b many) q
+by-outside : (o : Outcome) (s : UnitSetting) (r : RequestData) (v : View) (m b : Bool) (clears few many : ℕ) (q : Report) → By o s r v (course_at m clears b few) q → By o s r v (course_at m clears b many) q
 by-outside Done s r v m b clears few many q h = h
 by-outside Cut s r v m b clears few many q h = h
 by-outside Reset s r v m b clears few many q h = h
 by-outside NoTarget s r v m b clears few many q h = h
 by-outside Broken s r v m b clears few many q h = h
 
--- at the Free no entry has come after it
+-- at the BusFree no entry has come after it
 freed-fits : (g : Plan) (t : ℕ) (k : Ticket) (v : View) (o : Outcome) → k.before ≡ 0 → ReportFits g t k v o → FreedReportFits g t (freed_ticket k o v.tally) v o
 freed-fits g t k v o none f = λ rogue.
     let h = f rogue in
@@ -129,22 +130,22 @@ module _ (g : Plan) (count : ℕ) (plan : IsPlan g count) (ks : ℕ → Ticket) 
   }
 
   -- the connected ticket is the only one of its target
-  only : (c : Connection) (x : ℕ) (l : Link) → (ts (target_of g x)).link ≡ Working c → c.task.ticket ≡ x → (y : ℕ) → y ≢ x → target_of g y ≡ target_of g x → (ks y).life ≡ Connected → AtLink l y
+  only : (c : Connection) (x : ℕ) (l : ConnectionState) → (ts (target_of g x)).link ≡ TaskConnected c → c.task.ticket ≡ x → (y : ℕ) → y ≢ x → target_of g y ≡ target_of g x → (ks y).life ≡ Connected → AtLink l y
   only c x l working own y d f e =
       let a = subst (λ z. AtLink z y) working (subst (λ z. AtLink (ts z).link y) f (h.here y e)) in absurd (d (sym a ∙ own))
 
   nobody : (i : ℕ) → IsIdle (ts i).link → (y : ℕ) → target_of g y ≡ i → (ks y).life ≡ Connected → ⊥
   nobody i idle y f e = gone (ts i).link idle (subst (λ z. AtLink (ts z).link y) f (h.here y e))
     where
-      gone : (l : Link) → IsIdle l → AtLink l y → ⊥
-      gone Free s a = a
-      gone (Greeted b) s a = a
-      gone (Commanded n b) s a = a
-      gone (Working c) s a = s
-      gone (Straying s n) z a = a
+      gone : (l : ConnectionState) → IsIdle l → AtLink l y → ⊥
+      gone BusFree s a = a
+      gone (connection_state.Selected b) s a = a
+      gone (TakingCommand n b) s a = a
+      gone (TaskConnected c) s a = s
+      gone (RogueConnected s n) z a = a
 
   -- a call of the target that a task is connected to
-  calls : (i : ℕ) (c : Connection) (k : Ticket) (t : Target) → (ts i).link ≡ Working c → TargetKept g count i (with_at ks c.task.ticket k) t → (k.life ≡ Connected → AtLink t.link c.task.ticket)
+  calls : (i : ℕ) (c : Connection) (k : Ticket) (t : Target) → (ts i).link ≡ TaskConnected c → TargetKept g count i (with_at ks c.task.ticket k) t → (k.life ≡ Connected → AtLink t.link c.task.ticket)
       → AllKept g count (with_at ks c.task.ticket k) (with_at ts i t)
   calls i c k t working new own =
       let w = subst (λ l. LinkKept l g i ks (ts i)) working (h.each i).link in
@@ -154,15 +155,15 @@ module _ (g : Plan) (count : ℕ) (plan : IsPlan g count) (ks : ℕ → Ticket) 
       (only c c.task.ticket t.link (ap (λ z. (ts z).link) e ∙ working) refl))
 
   -- nothing of tickets changes, and no task is connected
-  pub relinked : (i : ℕ) (l : Link) → IsIdle (ts i).link → IsIdle l → AllKept g count ks (with_at ts i (linked (ts i) l))
+  pub relinked : (i : ℕ) (l : ConnectionState) → IsIdle (ts i).link → IsIdle l → AllKept g count ks (with_at ts i (linked (ts i) l))
   relinked i l idle next = record { each = λ j. at j (same_or_not j i); here = λ x e. there x e (same_or_not (target_of g x) i) }
     where
-      free : (l : Link) → IsIdle l → (t : Target) → LinkKept l g i ks t
-      free Free s t = tt
-      free (Greeted b) s t = tt
-      free (Commanded n b) s t = tt
-      free (Working c) s t = absurd s
-      free (Straying z n) s t = absurd s
+      free : (l : ConnectionState) → IsIdle l → (t : Target) → LinkKept l g i ks t
+      free BusFree s t = tt
+      free (connection_state.Selected b) s t = tt
+      free (TakingCommand n b) s t = tt
+      free (TaskConnected c) s t = absurd s
+      free (RogueConnected z n) s t = absurd s
 
       at : (j : ℕ) → (j ≡ i) ⊎ (j ≢ i) → TargetKept g count j ks (with_at ts i (linked (ts i) l) j)
       at j (inl q) = subst (TargetKept g count j ks) (sym (ap (with_at ts i (linked (ts i) l)) q ∙ with_at-same ts i (linked (ts i) l)))
@@ -173,14 +174,14 @@ module _ (g : Plan) (count : ℕ) (plan : IsPlan g count) (ks : ℕ → Ticket) 
       there x e (inl q) = absurd (nobody i idle x q e)
       there x e (inr d) = subst (λ z. AtLink z.link x) (sym (with_at-other ts i (linked (ts i) l) (target_of g x) d)) (h.here x e)
 
-  link_at : (x : ℕ) (k : Ticket) → ((ks x).life ≡ Connected → (k.life ≡ Connected) × (k.task ≡ (ks x).task)) → (j : ℕ) (l : Link) (t : Target) → LinkKept l g j ks t → LinkKept l g j (with_at ks x k) t
-  link_at x k f j Free t w = tt
-  link_at x k f j (Greeted b) t w = tt
-  link_at x k f j (Commanded n b) t w = tt
-  link_at x k f j (Straying s n) t w = w
-  link_at x k f j (Working c) t w = by (same_or_not c.task.ticket x)
+  link_at : (x : ℕ) (k : Ticket) → ((ks x).life ≡ Connected → (k.life ≡ Connected) × (k.task ≡ (ks x).task)) → (j : ℕ) (l : ConnectionState) (t : Target) → LinkKept l g j ks t → LinkKept l g j (with_at ks x k) t
+  link_at x k f j BusFree t w = tt
+  link_at x k f j (connection_state.Selected b) t w = tt
+  link_at x k f j (TakingCommand n b) t w = tt
+  link_at x k f j (RogueConnected s n) t w = w
+  link_at x k f j (TaskConnected c) t w = by (same_or_not c.task.ticket x)
     where
-      by : (c.task.ticket ≡ x) ⊎ (c.task.ticket ≢ x) → LinkKept (Working c) g j (with_at ks x k) t
+      by : (c.task.ticket ≡ x) ⊎ (c.task.ticket ≢ x) → LinkKept (TaskConnected c) g j (with_at ks x k) t
       by (inl q) =
           let m : with_at ks x k c.task.ticket ≡ k = ap (with_at ks x k) q ∙ with_at-same ks x k in
           let z = f (ap (λ y. (ks y).life) (sym q) ∙ w.life) in
@@ -270,36 +271,36 @@ module _ (g : Plan) (count : ℕ) (plan : IsPlan g count) (ks : ℕ → Ticket) 
       there x e (inl q) = absurd (dead (ns x).life (ap (λ k. k.life) (sym (ap (λ b. reset_ticket b (ns x)) (ap (λ z. nat_eq z i) q ∙ eq-test i))) ∙ e))
       there x e (inr d) = subst (λ z. AtLink z.link x) (sym (with_at-other ts i (target_reset (ts i)) (target_of g x) d)) (h.here x (ap (λ k. k.life) (sym (agree x d)) ∙ e))
 
-  idle-parts : (i : ℕ) → IsIdle (ts i).link → (l : Link) → l ≡ (ts i).link → parted l (ts i) ≡ ts i
-  idle-parts i idle Free e = refl
-  idle-parts i idle (Greeted b) e = refl
-  idle-parts i idle (Commanded n b) e = refl
-  idle-parts i idle (Working c) e = absurd (subst IsIdle (sym e) idle)
-  idle-parts i idle (Straying s n) e = refl
+  idle-parts : (i : ℕ) → IsIdle (ts i).link → (l : ConnectionState) → l ≡ (ts i).link → parted l (ts i) ≡ ts i
+  idle-parts i idle BusFree e = refl
+  idle-parts i idle (connection_state.Selected b) e = refl
+  idle-parts i idle (TakingCommand n b) e = refl
+  idle-parts i idle (TaskConnected c) e = absurd (subst IsIdle (sym e) idle)
+  idle-parts i idle (RogueConnected s n) e = refl
 
-  acts-link : (i : ℕ) (c : Connection) (u : LogicalUnit) (m : Move) → (ts i).link ≡ Working c → unit_at (ts i).units c.lun ≡ Some u → target_acted (ts i) m ≡ goes_on (ts i) c u (acted m (session u c))
+  acts-link : (i : ℕ) (c : Connection) (u : LogicalUnit) (m : Move) → (ts i).link ≡ TaskConnected c → unit_at (ts i).units c.lun ≡ Some u → target_acted (ts i) m ≡ goes_on (ts i) c u (acted m (session u c))
   unfolding target_acted
   acts-link i c u m working there = ap (λ l. acted_by l (ts i) m) working ∙ at-lun (ts i) c.lun _ u there
 
-sent-ticket : (sh : Showing) (c : Connection) → (sent_by sh c).task.ticket ≡ c.task.ticket
-sent-ticket Choosing c = refl
-sent-ticket Hearing c = refl
-sent-ticket (Sending n) c = refl
-sent-ticket (Receiving n) c = refl
-sent-ticket (Telling v) c = refl
-sent-ticket (Saying n s) c = refl
+sent-ticket : (sh : TaskPhase) (c : Connection) → (sent_by sh c).task.ticket ≡ c.task.ticket
+sent-ticket ToChoose c = refl
+sent-ticket MessageOut c = refl
+sent-ticket (DataIn n) c = refl
+sent-ticket (DataOut n) c = refl
+sent-ticket (Status v) c = refl
+sent-ticket (MessageIn n s) c = refl
 
-heard-ticket : (n : Note) (c : Connection) → (heard_by n c).task.ticket ≡ c.task.ticket
-heard-ticket (Name part.Lun) c = refl
-heard-ticket (Name part.Queue) c = refl
-heard-ticket (Name part.Tag) c = refl
-heard-ticket (Complete v) c = refl
-heard-ticket SaveThenLeave c = refl
-heard-ticket SaveNow c = refl
-heard-ticket RestoreNow c = refl
-heard-ticket LeaveNow c = refl
+heard-ticket : (n : TargetMessage) (c : Connection) → (heard_by n c).task.ticket ≡ c.task.ticket
+heard-ticket (Reselection part.Identify) c = refl
+heard-ticket (Reselection part.SimpleQueueTag) c = refl
+heard-ticket (Reselection part.Tag) c = refl
+heard-ticket (CommandComplete v) c = refl
+heard-ticket SaveThenDisconnect c = refl
+heard-ticket SaveDataPointer c = refl
+heard-ticket RestorePointers c = refl
+heard-ticket Disconnect c = refl
 
-closing-life : (v : Verdict) (g : Plan) (t : ℕ) (k : Ticket) (s : Session) (j : Ticket) → CompletesTicket v g t k s j → j.life ≡ Connected → ⊥
+closing-life : (v : Completion) (g : Plan) (t : ℕ) (k : Ticket) (s : Session) (j : Ticket) → CompletesTicket v g t k s j → j.life ≡ Connected → ⊥
 closing-life (HasAnswered st) g t k s j z e = let q : Finished Done ≡ Connected = sym (ap (λ y. y.life) z.2) ∙ e in cc
 closing-life (Refused st) g t k s j z e = let q : Rejected st ≡ Connected = sym (ap (λ y. y.life) z.1) ∙ e in cc
 

@@ -4,8 +4,8 @@ use Rattle.rig_types.specs.declared.report.Outcome.{Outcome}
 use Rattle.rig_types.specs.declared.report.Outcome.TheVariants.{Done, Cut, Reset, NoTarget, Broken}
 use Rattle.rig_types.specs.declared.report.Report.{Report}
 use Rattle.unit_law.specs.Log.{View}
-use Rattle.unit_law.specs.Request.{PlainRequest}
-use Rattle.unit_law.specs.Report.{Setting, Course, By}
+use Rattle.unit_law.specs.Request.{RequestData}
+use Rattle.unit_law.specs.Report.{UnitSetting, TicketHistory, By}
 use Rattle.target_law.specs.Target.{LogicalUnit, Target}
 use Rattle.ticket_fate.specs.Tickets.{Plan, unit_of, Freed, Ticket, view_for}
 use Rattle.ticket_fate.specs.Linked.{IsPlan}
@@ -35,7 +35,7 @@ units-run-their-logs g count ns us r n less =
     let unit = ((all-kept g count ns us r).each (g.units n).target).units n less refl in
     (unit.0, unit.1, unit.2.rig, unit.2.plain)
 
-lost-without-end : (o : Outcome) (s : Setting) (r : PlainRequest) (v : View) (h : Course) (q : Report) → By o s r v h q → (o ≡ Cut) ⊎ (o ≡ Reset) → v.tally.ends ≡ 0
+lost-without-end : (o : Outcome) (s : UnitSetting) (r : RequestData) (v : View) (h : TicketHistory) (q : Report) → By o s r v h q → (o ≡ Cut) ⊎ (o ≡ Reset) → v.tally.ends ≡ 0
 lost-without-end Cut s r v h q b e = b.0.no_end
 lost-without-end Reset s r v h q b e = b.0.no_end
 lost-without-end Done s r v h q b (inl e) = cc

@@ -10,14 +10,15 @@ use Rattle.rig_types.specs.declared.report.Report.{Report}
 use Rattle.plain_lun.specs.Losing.{dropped, cleared}
 use Rattle.unit_law.specs.declared.entry.LogEntry.{LogEntry}
 use Rattle.unit_law.specs.declared.entry.LogEntry.TheVariants.{Drop, Clear}
-use Rattle.unit_law.specs.Request.{PlainRequest, command, received_of}
+use Rattle.unit_law.specs.Request.{RequestData, command, received_of}
 use Rattle.unit_law.specs.Log.{Tally, View, run_log, with_at, noted, if_of, tally}
-use Rattle.unit_law.specs.Report.{Setting, Fits, By, ByLoss, holding, data_of}
+use Rattle.unit_law.specs.Report.{UnitSetting, Fits, By, ByLoss, holding, data_of}
 use Rattle.unit_law.proofs.Views.{run-push, tally-push, tally-clear, same_or_not, ne-test, eq-test, with_at-same, with_at-other}
 use Rattle.target_law.specs.Session.{Task}
 use Rattle.target_law.specs.Bytes.{Connection, away}
 use Rattle.target_law.specs.Sound.{IsWaiting}
-use Rattle.target_law.specs.Target.{LogicalUnit, Link, Free, Greeted, Commanded, Working, Straying, Target, flat, unit_at, drops, drops_by, unit_reset, slot_reset, parted, target_reset, leaves, unit_left}
+use Rattle.target_law.specs.Target as connection_state
+use Rattle.target_law.specs.Target.{LogicalUnit, ConnectionState, BusFree, TakingCommand, TaskConnected, RogueConnected, Target, flat, unit_at, drops, drops_by, unit_reset, slot_reset, parted, target_reset, leaves, unit_left}
 use Rattle.logs_have_room.specs.Room.{entries}
 use Rattle.ticket_fate.specs.Tickets.{Plan, unit_of, opening, setting, Life, Unbuilt, Built, Linked, ToRequeue, Waits, Selected, Connected, Away, Lost, Rejected, Finished, Checked, Asks, AskStarts, AskConnected, AskLost, Asked, AtRogue, Ended, Unlinked, Freed, Ticket, with_life, course_at, report_of, view_for}
 use Rattle.ticket_fate.specs.Fates.{OnlyRefusals, AllRefused, HasTask, ReportFits, FreedReportFits, Fate, NeedsNone, TicketKept}
@@ -122,10 +123,10 @@ view-clear g x log =
     let p = run-push g.requests (opening g (unit_of g x)) log Clear in
     view-is (view_for g x (log ++ Clear ∷ [])) (more (view_for g x log)) (tally-clear x log) (ap (λ r. r.answers x) p) (ap (λ r. r.senses x) p)
 
-loss-more : (r : PlainRequest) (v : View) (q : Report) → ByLoss r v q → ByLoss r (more v) q
+loss-more : (r : RequestData) (v : View) (q : Report) → ByLoss r v q → ByLoss r (more v) q
 loss-more r v q h = record { no_end = h.no_end; lost = h.lost; tries = h.tries; status = h.status; residual = h.residual; bytes = h.bytes }
 
-by-more : (o : Outcome) (s : Setting) (r : PlainRequest) (v : View) (m b : Bool) (few many outside : ℕ) (q : Report) → few ≤ many → By o s r v (course_at m few b outside) q
+by-more : (o : Outcome) (s : UnitSetting) (r : RequestData) (v : View) (m b : Bool) (few many outside : ℕ) (q : Report) → few ≤ many → By o s r v (course_at m few b outside) q
     → By o s r (more v) (course_at m many b outside) q
 by-more Done s r v m b few many outside q l (inl h) = inl (record { one_end = h.one_end; no_drop = h.no_drop; tries = h.tries; given = h.given })
 by-more Done s r v m b few many outside q l (inr h) =
@@ -170,7 +171,7 @@ freed-more g t k v o f = fits-more g t k v o k.clears k.clears (k.before + (entr
 refusals-more : (v : View) (n : ℕ) → OnlyRefusals v n → OnlyRefusals (more v) n
 refusals-more v n q = record { refusals = q.refusals; looks = q.looks; ends = q.ends; drops = q.drops; high = q.high; senses = q.senses; answer = q.answer }
 
-all-refused-more : (r : PlainRequest) (tries : ℕ) (buffer : List ℕ) (v : View) → AllRefused r tries buffer v → AllRefused r tries buffer (more v)
+all-refused-more : (r : RequestData) (tries : ℕ) (buffer : List ℕ) (v : View) → AllRefused r tries buffer v → AllRefused r tries buffer (more v)
 all-refused-more r tries buffer v h = record { entries = refusals-more v tries h.entries; holds = h.holds }
 
 -- a fate without a task, under one more Clear
@@ -396,7 +397,7 @@ slot-there us lun u e = ap flat (slice_get-map slot_reset us lun) ∙ by (slice_
     by None e = cc
 
 -- every unit of a target that has no connected ticket is reset
-pub units-reset : (g : Plan) (count i : ℕ) (tickets : ℕ → Ticket) (us : List (Option LogicalUnit)) (l m : Link) → UnitsKept g count i tickets (record { units = us; link = l })
+pub units-reset : (g : Plan) (count i : ℕ) (tickets : ℕ → Ticket) (us : List (Option LogicalUnit)) (l m : ConnectionState) → UnitsKept g count i tickets (record { units = us; link = l })
     → ((x : ℕ) → (g.units (unit_of g x)).target ≡ i → (tickets x).life ≡ Connected → ⊥)
     → UnitsKept g count i (reset_tickets g i tickets) (record { units = map slot_reset us; link = m })
 units-reset g count i tickets us l m h none = λ n less target.
@@ -410,16 +411,16 @@ units-reset g count i tickets us l m h none = λ n less target.
 
 module _ (g : Plan) (count : ℕ) (plan : IsPlan g count) (i : ℕ) (tickets : ℕ → Ticket) (t : Target) (h : TargetKept g count i tickets t) where
   -- no task of it is connected
-  pub idle-reset : ((l : Link) → l ≡ t.link → parted l t ≡ t) → ((x : ℕ) → (g.units (unit_of g x)).target ≡ i → (tickets x).life ≡ Connected → ⊥)
+  pub idle-reset : ((l : ConnectionState) → l ≡ t.link → parted l t ≡ t) → ((x : ℕ) → (g.units (unit_of g x)).target ≡ i → (tickets x).life ≡ Connected → ⊥)
       → TargetKept g count i (reset_tickets g i tickets) (target_reset t)
   unfolding target_reset
   idle-reset f none = record {
-    units = units-reset g count i tickets (parted t.link t).units t.link Free (subst (λ z. UnitsKept g count i tickets (record { units = z.units; link = t.link })) (sym (f t.link refl)) h.units) none;
+    units = units-reset g count i tickets (parted t.link t).units t.link BusFree (subst (λ z. UnitsKept g count i tickets (record { units = z.units; link = t.link })) (sym (f t.link refl)) h.units) none;
     link = tt;
   }
 
   -- a task of it is connected
-  pub work-reset : (c : Connection) → t.link ≡ Working c → (u : LogicalUnit) → unit_at t.units c.lun ≡ Some u
+  pub work-reset : (c : Connection) → t.link ≡ TaskConnected c → (u : LogicalUnit) → unit_at t.units c.lun ≡ Some u
       → ((x : ℕ) → (g.units (unit_of g x)).target ≡ i → (tickets x).life ≡ Connected → x ≡ c.task.ticket)
       → TargetKept g count i (reset_tickets g i (with_at tickets c.task.ticket (parts_ticket tickets c))) (target_reset t)
   unfolding target_reset
@@ -444,8 +445,8 @@ module _ (g : Plan) (count : ℕ) (plan : IsPlan g count) (i : ℕ) (tickets : �
         waits = λ a. away-waits u.plain c.task (w.sound u there).task;
       }) in
       record {
-        units = units-reset g count i (with_at tickets c.task.ticket k) (parted t.link t).units Free Free
-            (subst (λ z. UnitsKept g count i (with_at tickets c.task.ticket k) (record { units = z.units; link = Free })) (sym p) left.units)
+        units = units-reset g count i (with_at tickets c.task.ticket k) (parted t.link t).units BusFree BusFree
+            (subst (λ z. UnitsKept g count i (with_at tickets c.task.ticket k) (record { units = z.units; link = BusFree })) (sym p) left.units)
             (λ x e a. gone x e a (same_or_not x c.task.ticket));
         link = tt;
       }
@@ -455,12 +456,12 @@ module _ (g : Plan) (count : ℕ) (plan : IsPlan g count) (i : ℕ) (tickets : �
           let z : Away ≡ Connected = sym (ap (λ k. k.life) (ap (with_at tickets c.task.ticket (parts_ticket tickets c)) q ∙ with_at-same tickets c.task.ticket (parts_ticket tickets c))) ∙ a in cc
       gone x e a (inr d) = d (only x e (ap (λ k. k.life) (sym (with_at-other tickets c.task.ticket (parts_ticket tickets c) x d)) ∙ a))
 
-pub link-agrees : (l : Link) (g : Plan) (i : ℕ) (old new : ℕ → Ticket) (t : Target) → ((x : ℕ) → (g.units (unit_of g x)).target ≡ i → new x ≡ old x) → LinkKept l g i old t → LinkKept l g i new t
-link-agrees Free g i old new t f h = tt
-link-agrees (Greeted b) g i old new t f h = tt
-link-agrees (Commanded n b) g i old new t f h = tt
-link-agrees (Straying s n) g i old new t f h = h
-link-agrees (Working c) g i old new t f h =
+pub link-agrees : (l : ConnectionState) (g : Plan) (i : ℕ) (old new : ℕ → Ticket) (t : Target) → ((x : ℕ) → (g.units (unit_of g x)).target ≡ i → new x ≡ old x) → LinkKept l g i old t → LinkKept l g i new t
+link-agrees BusFree g i old new t f h = tt
+link-agrees (connection_state.Selected b) g i old new t f h = tt
+link-agrees (TakingCommand n b) g i old new t f h = tt
+link-agrees (RogueConnected s n) g i old new t f h = h
+link-agrees (TaskConnected c) g i old new t f h =
     let e = f c.task.ticket h.target in
     record { target = h.target; lun = h.lun; life = ap (λ z. z.life) e ∙ h.life; task = ap (λ z. z.task) e ∙ h.task; sound = h.sound; worth = h.worth }
 

@@ -9,11 +9,11 @@ use Rattle.unit_law.specs.Log.{with_at, run_log}
 use Rattle.unit_law.proofs.Views.{with_at-same, with_at-other, same_or_not}
 use Rattle.target_law.specs.declared.moves.Move.{Move}
 use Rattle.target_law.specs.declared.moves.Move.TheVariants as move
-use Rattle.target_law.specs.declared.showing.Showing.TheVariants.{Choosing, Sending}
+use Rattle.target_law.specs.declared.task_phase.TaskPhase.TheVariants.{ToChoose, DataIn}
 use Rattle.target_law.specs.Session.{Task, Session, Can, remaining, acted, gone, phased, looked, moves}
 use Rattle.target_law.specs.Bytes.{Connection}
 use Rattle.target_law.specs.Sound.{IsSound, IsWaiting}
-use Rattle.target_law.specs.Target.{LogicalUnit, Link, Working, Target, flat, unit_at, with_unit, session, at_lun, on_unit, goes_on, unit_after, connection_after}
+use Rattle.target_law.specs.Target.{LogicalUnit, ConnectionState, TaskConnected, Target, flat, unit_at, with_unit, session, at_lun, on_unit, goes_on, unit_after, connection_after}
 use Rattle.target_law.specs.Calls.{acted_by, target_acted}
 use Rattle.target_session.proofs.Acts.{acted-sound, acted-others}
 use Rattle.ticket_fate.specs.Tickets.{Plan, unit_of, opening, Connected, Away, Ticket, view_for}
@@ -112,7 +112,7 @@ module _ (g : Plan) (count : ℕ) (plan : IsPlan g count) (i : ℕ) (tickets : �
 
   -- a ticket and its unit
   pub units-changed : (x : ℕ) (k : Ticket) (lun : ℕ) (u v : LogicalUnit) → (g.units (unit_of g x)).target ≡ i → lun ≡ (g.units (unit_of g x)).lun → unit_at t.units lun ≡ Some u
-      → UnitKept g (unit_of g x) (with_at tickets x k) v → (l : Link) → UnitsKept g count i (with_at tickets x k) (record { units = with_unit t.units lun v; link = l })
+      → UnitKept g (unit_of g x) (with_at tickets x k) v → (l : ConnectionState) → UnitsKept g count i (with_at tickets x k) (record { units = with_unit t.units lun v; link = l })
   units-changed x k lun u v e f there new l = λ n m target. units_at x k lun u v e f there new n m target (same_or_not n (unit_of g x))
 
   ticket_changed_at : (x : ℕ) (k : Ticket) → ((u : LogicalUnit) → UnitKept g (unit_of g x) tickets u → UnitKept g (unit_of g x) (with_at tickets x k) u)
@@ -123,7 +123,7 @@ module _ (g : Plan) (count : ℕ) (plan : IsPlan g count) (i : ℕ) (tickets : �
   ticket_changed_at x k f n l target (inr d) = let old = h n l target in (old.0, old.1, unit-elsewhere g n tickets x k old.0 (λ q. d (sym q)) old.2)
 
   -- a ticket alone; so also one of another target
-  pub units-ticket-changed : (x : ℕ) (k : Ticket) → ((u : LogicalUnit) → UnitKept g (unit_of g x) tickets u → UnitKept g (unit_of g x) (with_at tickets x k) u) → (l : Link)
+  pub units-ticket-changed : (x : ℕ) (k : Ticket) → ((u : LogicalUnit) → UnitKept g (unit_of g x) tickets u → UnitKept g (unit_of g x) (with_at tickets x k) u) → (l : ConnectionState)
       → UnitsKept g count i (with_at tickets x k) (record { units = t.units; link = l })
   units-ticket-changed x k f l = λ n m target. ticket_changed_at x k f n m target (same_or_not n (unit_of g x))
 
@@ -165,21 +165,21 @@ follow-kept g x k s y e h f = record {
 }
 
 -- what a choice shows
-looked-worth : (o : Option Answered) (b : Bool) (s : Session) (n : ℕ) → s.task.senses ≡ b → ShownFits (moves (looked o s) (Sending n)).shows (moves (looked o s) (Sending n)).task
+looked-worth : (o : Option Answered) (b : Bool) (s : Session) (n : ℕ) → s.task.senses ≡ b → ShownFits (moves (looked o s) (DataIn n)).shows (moves (looked o s) (DataIn n)).task
 looked-worth (Some a) b s n e = refl
 looked-worth None true s n e = refl
 looked-worth None false s n e = refl
 
-phased-worth : (d : Direction) (s : Session) (n : ℕ) → s.shows ≡ Choosing → ShownFits (phased d s n).shows (phased d s n).task
+phased-worth : (d : Direction) (s : Session) (n : ℕ) → s.shows ≡ ToChoose → ShownFits (phased d s n).shows (phased d s n).task
 phased-worth In s n e = looked-worth s.task.kept s.task.senses s n refl
 phased-worth Out s n e = refl
 phased-worth NoData s n e = subst (λ z. ShownFits z s.task) (sym e) tt
 
-gone-worth : (r : ℕ) (s : Session) (n : ℕ) → s.shows ≡ Choosing → ShownFits (gone r s n).shows (gone r s n).task
+gone-worth : (r : ℕ) (s : Session) (n : ℕ) → s.shows ≡ ToChoose → ShownFits (gone r s n).shows (gone r s n).task
 gone-worth zero s n e = tt
 gone-worth (suc r) s n e = phased-worth (need_of s.task.cdb).direction s n e
 
-acted-worth : (m : Move) (s : Session) (limit refused : ℕ) → s.shows ≡ Choosing → Can m s limit refused → (s.task.fresh ≡ true → (s.task.high ≡ 0) × (s.task.kept ≡ None)) → ShownFits (acted m s).shows (acted m s).task
+acted-worth : (m : Move) (s : Session) (limit refused : ℕ) → s.shows ≡ ToChoose → Can m s limit refused → (s.task.fresh ≡ true → (s.task.high ≡ 0) × (s.task.kept ≡ None)) → ShownFits (acted m s).shows (acted m s).task
 unfolding acted
 acted-worth (move.Go n) s limit refused e c f = gone-worth (remaining s) s n e
 acted-worth move.Busy s limit refused e c f = let h = f c.fresh in (h.0, h.1, λ z. absurd (omega arith))
@@ -190,7 +190,7 @@ acted-worth move.Save s limit refused e c f = tt
 acted-worth move.Restore s limit refused e c f = tt
 acted-worth (move.Rogue word) s limit refused e c f = absurd c
 
-module _ (g : Plan) (count : ℕ) (plan : IsPlan g count) (i : ℕ) (tickets : ℕ → Ticket) (t : Target) (h : TargetKept g count i tickets t) (c : Connection) (working : t.link ≡ Working c)
+module _ (g : Plan) (count : ℕ) (plan : IsPlan g count) (i : ℕ) (tickets : ℕ → Ticket) (t : Target) (h : TargetKept g count i tickets t) (c : Connection) (working : t.link ≡ TaskConnected c)
     (u : LogicalUnit) (there : unit_at t.units c.lun ≡ Some u) where
   abbrev pub x : ℕ
   x = c.task.ticket
@@ -205,7 +205,7 @@ module _ (g : Plan) (count : ℕ) (plan : IsPlan g count) (i : ℕ) (tickets : �
   runs = subst (λ z. HasTask g.retries (g.requests x) (tickets x).tag (tickets x).tries (tickets x).buffer z (view_for g x u.log)) at.task (fate_at g x (tickets x) u.log Connected (kept.each x refl) at.life)
 
   -- a choice
-  acted-at : (m : Move) (limit refused : ℕ) → c.shows ≡ Choosing → Can m (session u c) limit refused → (y : Session) → y ≡ acted m (session u c)
+  acted-at : (m : Move) (limit refused : ℕ) → c.shows ≡ ToChoose → Can m (session u c) limit refused → (y : Session) → y ≡ acted m (session u c)
       → TargetKept g count i (with_at tickets x (record (tickets x) { task = y.task })) (goes_on t c u y)
   acted-at m limit refused e can y same =
       let f : Follows g x (tickets x).tag (tickets x).tries (tickets x).buffer (session u c) y =
@@ -221,13 +221,13 @@ module _ (g : Plan) (count : ℕ) (plan : IsPlan g count) (i : ℕ) (tickets : �
           lists = lists-other g (unit_of g x) tickets x k u.tasks (not-away (tickets x) at.life) (not-away (tickets x) at.life) kept.lists;
           others = λ j w. subst (λ z. IsWaiting z.unit j) (sym same) (acted-others m (session u c) j w);
           waits = λ a. absurd (not-away (tickets x) at.life a);
-        }) kept) (Working (connection_after c y));
+        }) kept) (TaskConnected (connection_after c y));
         link = work-is g i tickets x k (goes_on t c u y) (connection_after c y) f.ticket at.target at.lun at.life refl
             (λ w e. subst (λ z. IsSound (session z (connection_after c y))) (same_Some (unit_after u y) w (sym (unit-same t.units c.lun u (unit_after u y) there) ∙ e)) sound)
             (subst (λ z. ShownFits z.shows z.task) (sym same) (acted-worth m (session u c) limit refused e can runs.fresh));
       }
 
-  pub acted-kept : (m : Move) (limit refused : ℕ) → c.shows ≡ Choosing → Can m (session u c) limit refused
+  pub acted-kept : (m : Move) (limit refused : ℕ) → c.shows ≡ ToChoose → Can m (session u c) limit refused
       → TargetKept g count i (with_at tickets x (record (tickets x) { task = (acted m (session u c)).task })) (target_acted t m)
   unfolding target_acted
   acted-kept m limit refused e can =

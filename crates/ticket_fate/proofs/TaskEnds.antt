@@ -12,15 +12,15 @@ use Rattle.unit_law.specs.Request.{command}
 use Rattle.unit_law.specs.Log.{with_at, run_log}
 use Rattle.unit_law.proofs.Views.{tally-drop}
 use Rattle.target_law.specs.declared.nexus.Nexus.{Nexus}
-use Rattle.target_law.specs.declared.showing.NamePart.TheVariants as part
-use Rattle.target_law.specs.declared.showing.Note.TheVariants.{Name, Complete}
-use Rattle.target_law.specs.declared.showing.Showing.TheVariants.{Choosing, Saying}
-use Rattle.target_law.specs.declared.showing.Verdict.{Verdict}
-use Rattle.target_law.specs.declared.showing.Verdict.TheVariants.{Answered as HasAnswered, Refused}
+use Rattle.target_law.specs.declared.task_phase.ReselectByte.TheVariants as part
+use Rattle.target_law.specs.declared.task_phase.TargetMessage.TheVariants.{Reselection, CommandComplete}
+use Rattle.target_law.specs.declared.task_phase.TaskPhase.TheVariants.{ToChoose, MessageIn}
+use Rattle.target_law.specs.declared.task_phase.Completion.{Completion}
+use Rattle.target_law.specs.declared.task_phase.Completion.TheVariants.{Answered as HasAnswered, Refused}
 use Rattle.target_law.specs.Session.{Task, Session, closed, says, began, asks_sense}
 use Rattle.target_law.specs.Bytes.{Connection, away}
 use Rattle.target_law.specs.Sound.{IsSound, IsWaiting, IsWorth, Ends}
-use Rattle.target_law.specs.Target.{LogicalUnit, Free, Working, Target, unit_at, with_unit, linked, session, ends, leaves, unit_left, unit_after, drops, drops_by}
+use Rattle.target_law.specs.Target.{LogicalUnit, BusFree, TaskConnected, Target, unit_at, with_unit, linked, session, ends, leaves, unit_left, unit_after, drops, drops_by}
 use Rattle.target_law.specs.Calls.{task_reselected, has_tag, has_ended, begun}
 use Rattle.unit_task.proofs.Keeping.{away-waits, began-waits}
 use Rattle.unit_task.proofs.Ends.{others-ended}
@@ -44,7 +44,7 @@ refused-same : (st : Status) (s : Session) (y : Task) → IsWaiting s.unit y →
 unfolding closed
 refused-same st s y f = f
 
-module _ (g : Plan) (count : ℕ) (plan : IsPlan g count) (i : ℕ) (tickets : ℕ → Ticket) (t : Target) (h : TargetKept g count i tickets t) (c : Connection) (working : t.link ≡ Working c)
+module _ (g : Plan) (count : ℕ) (plan : IsPlan g count) (i : ℕ) (tickets : ℕ → Ticket) (t : Target) (h : TargetKept g count i tickets t) (c : Connection) (working : t.link ≡ TaskConnected c)
     (u : LogicalUnit) (there : unit_at t.units c.lun ≡ Some u) where
   abbrev n : ℕ
   n = unit_of g c.task.ticket
@@ -62,8 +62,8 @@ module _ (g : Plan) (count : ℕ) (plan : IsPlan g count) (i : ℕ) (tickets : �
   q = runs g count plan i tickets t h c working u there
 
   -- the unit changes, and the bus is free
-  pub frees : (k : Ticket) (v : LogicalUnit) → Changed g tickets c.task.ticket k u v → TargetKept g count i (with_at tickets c.task.ticket k) (record { units = with_unit t.units c.lun v; link = Free })
-  frees k v d = record { units = units-changed g count plan i tickets t h.units c.task.ticket k c.lun u v w.target w.lun there (unit-changed g tickets c.task.ticket k u v d unit) Free; link = tt }
+  pub frees : (k : Ticket) (v : LogicalUnit) → Changed g tickets c.task.ticket k u v → TargetKept g count i (with_at tickets c.task.ticket k) (record { units = with_unit t.units c.lun v; link = BusFree })
+  frees k v d = record { units = units-changed g count plan i tickets t h.units c.task.ticket k c.lun u v w.target w.lun there (unit-changed g tickets c.task.ticket k u v d unit) BusFree; link = tt }
 
   -- DISCONNECT: the host saved its pointer before
   pub leaves-kept : own.savep ≡ c.task.saved → TargetKept g count i (with_at tickets c.task.ticket (record own { life = Away; task = away c.task })) (leaves t c u)
@@ -96,7 +96,7 @@ module _ (g : Plan) (count : ℕ) (plan : IsPlan g count) (i : ℕ) (tickets : �
     waits = λ a. absurd (d a);
   })
 
-  ends-by : (v : Verdict) → Ends v (session u c) → VerdictFits v c.task → (j : Ticket) → CompletesTicket v g c.task.ticket own (session u c) j
+  ends-by : (v : Completion) → Ends v (session u c) → VerdictFits v c.task → (j : Ticket) → CompletesTicket v g c.task.ticket own (session u c) j
       → TargetKept g count i (with_at tickets c.task.ticket j) (ends t c u (closed v (session u c)))
   ends-by (HasAnswered st) e m j z =
       subst (λ y. TargetKept g count i (with_at tickets c.task.ticket y) (ends t c u (closed (HasAnswered st) (session u c)))) (sym z.2)
@@ -110,11 +110,11 @@ module _ (g : Plan) (count : ℕ) (plan : IsPlan g count) (i : ℕ) (tickets : �
       (λ y f. refused-same st (session u c) y f))
 
   -- COMMAND COMPLETE is acknowledged
-  pub ends-kept : (v : Verdict) (s : Bool) → c.shows ≡ Saying (Complete v) s → (j : Ticket) → CompletesTicket v g c.task.ticket own (session u c) j
+  pub ends-kept : (v : Completion) (s : Bool) → c.shows ≡ MessageIn (CommandComplete v) s → (j : Ticket) → CompletesTicket v g c.task.ticket own (session u c) j
       → TargetKept g count i (with_at tickets c.task.ticket j) (ends t c u (closed v (session u c)))
   ends-kept v s e j z = ends-by v (subst (λ y. IsWorth y (session u c)) e (w.sound u there).worth) (subst (λ y. ShownFits y c.task) e w.worth) j z
 
-  drops-at : (b : Bool) → c.task.senses ≡ b → own.marked ≡ true → TargetKept g count i (with_at tickets c.task.ticket (with_life own (Finished Cut))) (record { units = with_unit t.units c.lun (drops_by b u c.task); link = Free })
+  drops-at : (b : Bool) → c.task.senses ≡ b → own.marked ≡ true → TargetKept g count i (with_at tickets c.task.ticket (with_life own (Finished Cut))) (record { units = with_unit t.units c.lun (drops_by b u c.task); link = BusFree })
   drops-at true e m = let f = q.plain in cc
   drops-at false e m =
       let k = with_life own (Finished Cut) in
@@ -142,7 +142,7 @@ module _ (g : Plan) (count : ℕ) (plan : IsPlan g count) (i : ℕ) (tickets : �
       })
 
   -- ABORT TAG of a marked ticket
-  pub drops-kept : own.marked ≡ true → TargetKept g count i (with_at tickets c.task.ticket (with_life own (Finished Cut))) (record { units = with_unit t.units c.lun (drops u c.task); link = Free })
+  pub drops-kept : own.marked ≡ true → TargetKept g count i (with_at tickets c.task.ticket (with_life own (Finished Cut))) (record { units = with_unit t.units c.lun (drops u c.task); link = BusFree })
   drops-kept m = drops-at c.task.senses refl m
 
 -- a task reselects
@@ -158,7 +158,7 @@ module _ (g : Plan) (count : ℕ) (plan : IsPlan g count) (i : ℕ) (tickets : �
       let v = record u { tasks = remove u.tasks m } in
       let same : unit_of g k.ticket ≡ n = a.unit in
       let wait : IsWaiting u.plain k = subst (IsWaiting u.plain) a.task (unit.waiting k.ticket a.unit a.life) in
-      let c : Connection = record { lun = (g.units n).lun; reselected = true; heard = []; task = k; shows = says (Name part.Lun) } in
+      let c : Connection = record { lun = (g.units n).lun; reselected = true; heard = []; task = k; shows = says (Reselection part.Identify) } in
       let kept2 : UnitKept g (unit_of g k.ticket) (with_at tickets k.ticket new) v = unit-changed g tickets k.ticket new u v (record {
         grows = inl refl;
         stands = record {
@@ -176,8 +176,8 @@ module _ (g : Plan) (count : ℕ) (plan : IsPlan g count) (i : ℕ) (tickets : �
       let target : (g.units (unit_of g k.ticket)).target ≡ i = ap (λ z. (g.units z).target) same ∙ here in
       let lun : (g.units n).lun ≡ (g.units (unit_of g k.ticket)).lun = ap (λ z. (g.units z).lun) (sym same) in
       record {
-        units = units-changed g count plan i tickets t h.units k.ticket new (g.units n).lun u v target lun there kept2 (Working c);
-        link = work-is g i tickets k.ticket new (record { units = with_unit t.units (g.units n).lun v; link = Working c }) c refl target lun refl refl
+        units = units-changed g count plan i tickets t h.units k.ticket new (g.units n).lun u v target lun there kept2 (TaskConnected c);
+        link = work-is g i tickets k.ticket new (record { units = with_unit t.units (g.units n).lun v; link = TaskConnected c }) c refl target lun refl refl
             (λ y z. let same_unit : v ≡ y = some v y (sym (unit-same t.units (g.units n).lun u v there) ∙ z) in
             subst (λ b. IsSound (session b c)) same_unit (record { task = wait.task; worth = wait.turn }))
             tt;
@@ -232,14 +232,14 @@ module _ (g : Plan) (count : ℕ) (plan : IsPlan g count) (i : ℕ) (tickets : �
       let ended : has_ended u.log x ≡ false = ap (λ m. nat_lt 0 m) q.entries.ends in
       let task = began n.tag x c u.rig.disconnects (has_ended u.log x) in
       let new = record old { life = Connected; task = task } in
-      let d : Connection = record { lun = n.lun; reselected = false; heard = []; task = task; shows = Choosing } in
+      let d : Connection = record { lun = n.lun; reselected = false; heard = []; task = task; shows = ToChoose } in
       let free : has_tag u.tasks n.tag ≡ false = no-tag g (unit_of g x) tickets n.tag u.tasks unit.lists.tasks
       (λ y e a z. alone y e a (sym (fate_at g y (tickets y) u.log Away (unit.each y e) a).0.tag ∙ z ∙ tag)) in
       let a = plan.accepted x in
       let fits : nat_lt 65536 (need_of c).bytes ≡ false = (let l = a.enough in let m = a.small in grind (arith, nat_tests)) in
       let wait : IsWaiting u.plain task = began-waits n.tag x c u.rig.disconnects (has_ended u.log x) a.form (let l = a.enough in let m = a.small in omega arith) u.plain in
       let plain : task.senses ≡ false = ap (asks_sense c) ended ∙ asks-none c in
-      subst (TargetKept g count i (with_at tickets x new)) (sym (cond-false (has_tag u.tasks n.tag || nat_lt 65536 (need_of c).bytes) (linked t Free) (linked t (Working d)) (tag-or _ _ free fits))) (record {
+      subst (TargetKept g count i (with_at tickets x new)) (sym (cond-false (has_tag u.tasks n.tag || nat_lt 65536 (need_of c).bytes) (linked t BusFree) (linked t (TaskConnected d)) (tag-or _ _ free fits))) (record {
         units = units-ticket-changed g count plan i tickets t h.units x new (λ v kept2.
             unit-changed g tickets x new v v (record {
               grows = inl refl;
@@ -272,8 +272,8 @@ module _ (g : Plan) (count : ℕ) (plan : IsPlan g count) (i : ℕ) (tickets : �
               lists = lists-other g (unit_of g x) tickets x new v.tasks (λ z. let y : Selected ≡ Away = sym life ∙ z in cc) (λ z. cc) kept2.lists;
               others = λ j z. z;
               waits = λ z. absurd (let y : Connected ≡ Away = z in cc);
-            }) kept2) (Working d);
-        link = work-is g i tickets x new (linked t (Working d)) d refl here lun refl refl
+            }) kept2) (TaskConnected d);
+        link = work-is g i tickets x new (linked t (TaskConnected d)) d refl here lun refl refl
             (λ y z. let same : u ≡ y = some u y (sym there ∙ z) in subst (λ b. IsSound (session b d)) same (record { task = wait.task; worth = λ j. absurd (let k : false ≡ true = j in cc) }))
             tt;
       })
@@ -290,5 +290,5 @@ module _ (g : Plan) (count : ℕ) (plan : IsPlan g count) (i : ℕ) (tickets : �
       let a = plan.accepted x in
       let fits : nat_lt 65536 (need_of (command (g.requests x))).bytes ≡ false = (let l = a.enough in let m = a.small in grind (arith, nat_tests)) in
       let task = began n.tag x (command (g.requests x)) u.rig.disconnects (has_ended u.log x) in
-      let d : Connection = record { lun = n.lun; reselected = false; heard = []; task = task; shows = Choosing } in
-      subst (λ z. AtLink z.link x) (sym (cond-false (has_tag u.tasks n.tag || nat_lt 65536 (need_of (command (g.requests x))).bytes) (linked t Free) (linked t (Working d)) (tag-or _ _ free fits))) refl
+      let d : Connection = record { lun = n.lun; reselected = false; heard = []; task = task; shows = ToChoose } in
+      subst (λ z. AtLink z.link x) (sym (cond-false (has_tag u.tasks n.tag || nat_lt 65536 (need_of (command (g.requests x))).bytes) (linked t BusFree) (linked t (TaskConnected d)) (tag-or _ _ free fits))) refl

@@ -8,7 +8,7 @@ use Rattle.scsi_words.specs.Statuses.{status_code}
 use Rattle.rig_types.specs.declared.report.Outcome.TheVariants.{Done, Cut, NoTarget}
 use Rattle.rig_types.specs.declared.report.Report.{Report}
 use Rattle.unit_law.specs.declared.entry.LogEntry.{LogEntry}
-use Rattle.unit_law.specs.Request.{PlainRequest}
+use Rattle.unit_law.specs.Request.{RequestData}
 use Rattle.unit_law.specs.Log.{View}
 use Rattle.unit_law.specs.Report.{ByLoss, filled, holding, data_of, no_status}
 use Rattle.unit_law.proofs.Views.{ne-test}
@@ -39,7 +39,7 @@ module _ (g : Plan) (t : ℕ) (k : Ticket) (log : List LogEntry) (s : TicketKept
   abbrev v : View
   v = view_for g t log
 
-  abbrev r : PlainRequest
+  abbrev r : RequestData
   r = g.requests t
 
   pub built-kept : (tag : ℕ) → k.life ≡ Unbuilt → TicketKept g t (built_ticket (g.requests t) tag (entries (view_for g t log).tally) k) log

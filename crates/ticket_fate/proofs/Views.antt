@@ -1,10 +1,10 @@
 -- What one more entry changes in the view of a ticket, and the frame: an entry of one ticket leaves what holds of every other.
 use Rattle.std.proofs.Common.{◌≡◌, ◌≢◌, ℕ, ◌≤◌, List, [], ◌∷◌, ◌++◌, ap, sym, ◌∙◌, subst, Option, ◌⊎◌, inl, inr}
-use Rattle.plain_lun.specs.Unit.{Plain}
+use Rattle.plain_lun.specs.Unit.{UnitState}
 use Rattle.plain_lun.specs.Performing.{Answered}
 use Rattle.unit_law.specs.declared.entry.LogEntry.{LogEntry}
 use Rattle.unit_law.specs.Log.{with_at, Tally, View, view_of}
-use Rattle.unit_law.specs.Request.{PlainRequest}
+use Rattle.unit_law.specs.Request.{RequestData}
 use Rattle.unit_law.proofs.Views.{IsOf, tally-other, answers-other, senses-other, with_at-same, with_at-other, same_or_not}
 use Rattle.ticket_fate.specs.Tickets.{Plan, unit_of, opening, Ticket, view_for}
 use Rattle.ticket_fate.specs.Fates.{Fate, TicketKept}
@@ -19,7 +19,7 @@ view-is a b e f g =
     ∙ ap (λ (o : Option Answered). let v : View = record { tally = b.tally; answer = o; sense = a.sense } in v) f
     ∙ ap (λ (o : Option (List ℕ)). let v : View = record { tally = b.tally; answer = b.answer; sense = o } in v) g
 
-pub view-other : (requests : ℕ → PlainRequest) (u : Plain) (x t : ℕ) (log : List LogEntry) (e : LogEntry) → IsOf t e → x ≢ t → view_of requests u (log ++ e ∷ []) x ≡ view_of requests u log x
+pub view-other : (requests : ℕ → RequestData) (u : UnitState) (x t : ℕ) (log : List LogEntry) (e : LogEntry) → IsOf t e → x ≢ t → view_of requests u (log ++ e ∷ []) x ≡ view_of requests u log x
 view-other requests u x t log e i d =
     view-is (view_of requests u (log ++ e ∷ []) x) (view_of requests u log x) (tally-other x t log e i d) (answers-other requests u x t log e i d) (senses-other requests u x t log e i d)
 

@@ -7,7 +7,7 @@ use Rattle.cdb_codec.specs.Forms.{need_of}
 use Rattle.rig_types.specs.declared.report.Outcome.{Outcome}
 use Rattle.rig_types.specs.declared.report.Outcome.TheVariants.{Done, Reset}
 use Rattle.unit_law.specs.declared.entry.LogEntry.{LogEntry}
-use Rattle.unit_law.specs.Request.{PlainRequest, command, received_of}
+use Rattle.unit_law.specs.Request.{RequestData, command, received_of}
 use Rattle.unit_law.specs.Log.{View}
 use Rattle.unit_law.specs.Report.{Fits, EndedInCheck, holding, data_of}
 use Rattle.target_law.specs.Session.{Task}
@@ -25,7 +25,7 @@ pub record OnlyRefusals (v : View) (n : ℕ) : Type 0 where
   pub answer : v.answer ≡ None
 
 -- it is queued, and has no task yet
-pub record Queued (retries : ℕ) (r : PlainRequest) (tries lastp savep : ℕ) (buffer : List ℕ) (v : View) : Type 0 where
+pub record Queued (retries : ℕ) (r : RequestData) (tries lastp savep : ℕ) (buffer : List ℕ) (v : View) : Type 0 where
   pub entries : OnlyRefusals v v.tally.refusals
   pub tried : tries ≡ v.tally.refusals + 1
   pub most : tries ≤ retries + 1
@@ -34,13 +34,13 @@ pub record Queued (retries : ℕ) (r : PlainRequest) (tries lastp savep : ℕ) (
   pub saves : savep ≡ 0
 
 -- it was refused as often as it was queued
-pub record AllRefused (r : PlainRequest) (tries : ℕ) (buffer : List ℕ) (v : View) : Type 0 where
+pub record AllRefused (r : RequestData) (tries : ℕ) (buffer : List ℕ) (v : View) : Type 0 where
   pub entries : OnlyRefusals v tries
   pub holds : buffer ≡ r.bytes
 
 -- It has a task, which isn't a sense task: the log has its refusals and at most its Look, the kept answer is the log's, a write has received the
 -- front of the submitted bytes, and the buffer holds the data up to the greatest position.
-pub record HasTask (retries : ℕ) (r : PlainRequest) (named tries : ℕ) (buffer : List ℕ) (x : Task) (v : View) : Type 0 where
+pub record HasTask (retries : ℕ) (r : RequestData) (named tries : ℕ) (buffer : List ℕ) (x : Task) (v : View) : Type 0 where
   pub tag : x.tag ≡ named
   pub cdb : x.cdb ≡ command r
   pub plain : x.senses ≡ false

@@ -3,7 +3,7 @@ use Rattle.std.specs.Prelude.{◌≡◌, ℕ, ◌<◌, false, Some, ◌⊎◌}
 use Rattle.rig_types.specs.declared.report.Outcome.{Outcome}
 use Rattle.rig_types.specs.declared.report.Outcome.TheVariants.{Cut, Reset}
 use Rattle.unit_law.specs.Log.{run_log}
-use Rattle.target_law.specs.Target.{LogicalUnit, Free, Target, unit_at, unit_opened}
+use Rattle.target_law.specs.Target.{LogicalUnit, BusFree, Target, unit_at, unit_opened}
 use Rattle.ticket_fate.specs.Tickets.{Plan, unit_of, opening, Unbuilt, Freed, Ticket, view_for}
 use Rattle.ticket_fate.specs.Fates.{FreedReportFits}
 use Rattle.ticket_fate.specs.Linked.{IsPlan}
@@ -14,7 +14,7 @@ pub record Opens (g : Plan) (count : ℕ) (ks : ℕ → Ticket) (ts : ℕ → Ta
   pub unbuilt : (x : ℕ) → (ks x).life ≡ Unbuilt
   pub unqueued : (x : ℕ) → (ks x).since ≡ 0
   pub unlogged : (x : ℕ) → (ks x).before ≡ 0
-  pub free : (i : ℕ) → (ts i).link ≡ Free
+  pub free : (i : ℕ) → (ts i).link ≡ BusFree
   pub units : (n : ℕ) → n < count → unit_at (ts (g.units n).target).units (g.units n).lun ≡ Some (unit_opened (g.units n))
 
 -- a list of moves
@@ -27,7 +27,7 @@ pub record Reached (g : Plan) (count : ℕ) (ns : ℕ → Ticket) (us : ℕ → 
   pub plan : IsPlan g count
   pub from : (ks : ℕ → Ticket) × (ts : ℕ → Target) × Opens g count ks ts × Run g count ks ts ns us
 
--- the report of each freed ticket fits the log of its unit, with the history that was fixed at its Free
+-- the report of each freed ticket fits the log of its unit, with the history that was fixed at its BusFree
 abbrev pub ReportsFit : Type 0
 ReportsFit = (g : Plan) (count : ℕ) (ns : ℕ → Ticket) (us : ℕ → Target) → Reached g count ns us → (x : ℕ) (o : Outcome) → (ns x).life ≡ Freed o
     → (u : LogicalUnit) × (unit_at (us (target_of g x)).units (g.units (unit_of g x)).lun ≡ Some u) × FreedReportFits g x (ns x) (view_for g x u.log) o

@@ -3,16 +3,16 @@ use Rattle.std.specs.Prelude.{◌≡◌, ℕ, ◌<◌, nat_eq, Bool, true, false
 use Rattle.scsi_words.specs.Statuses.{status_code}
 use Rattle.scsi_words.specs.declared.statuses.kinds.Status.TheVariants.{Good}
 use Rattle.unit_law.specs.Log.{run_log}
-use Rattle.target_law.specs.declared.showing.Note.{Note}
-use Rattle.target_law.specs.declared.showing.Note.TheVariants.{Complete}
-use Rattle.target_law.specs.declared.showing.Showing.{Showing}
-use Rattle.target_law.specs.declared.showing.Showing.TheVariants.{Choosing, Hearing, Sending, Receiving, Telling, Saying}
-use Rattle.target_law.specs.declared.showing.Verdict.{Verdict}
-use Rattle.target_law.specs.declared.showing.Verdict.TheVariants.{Answered as HasAnswered, Refused}
+use Rattle.target_law.specs.declared.task_phase.TargetMessage.{TargetMessage}
+use Rattle.target_law.specs.declared.task_phase.TargetMessage.TheVariants.{CommandComplete}
+use Rattle.target_law.specs.declared.task_phase.TaskPhase.{TaskPhase}
+use Rattle.target_law.specs.declared.task_phase.TaskPhase.TheVariants.{ToChoose, MessageOut, DataIn, DataOut, Status, MessageIn}
+use Rattle.target_law.specs.declared.task_phase.Completion.{Completion}
+use Rattle.target_law.specs.declared.task_phase.Completion.TheVariants.{Answered as HasAnswered, Refused}
 use Rattle.target_law.specs.Session.{Task}
 use Rattle.target_law.specs.Bytes.{Connection}
 use Rattle.target_law.specs.Sound.{IsSound, IsWaiting}
-use Rattle.target_law.specs.Target.{LogicalUnit, Link, Working, Straying, Target, unit_at, session}
+use Rattle.target_law.specs.Target.{LogicalUnit, ConnectionState, TaskConnected, RogueConnected, Target, unit_at, session}
 use Rattle.ticket_fate.specs.Tickets.{Plan, unit_of, opening, Life, Selected, Connected, Away, Lost, AskStarts, AskConnected, AskLost, Ticket, IsAccepted}
 use Rattle.ticket_fate.specs.Fates.{TicketKept}
 
@@ -55,21 +55,21 @@ pub record UnitKept (g : Plan) (n : ℕ) (tickets : ℕ → Ticket) (u : Logical
   pub waiting : (t : ℕ) → unit_of g t ≡ n → (tickets t).life ≡ Away → IsWaiting u.plain (tickets t).task
 
 -- a refusal comes before anything has moved; a data phase comes from a task that isn't fresh
-abbrev pub VerdictFits : Verdict → Task → Type 0
+abbrev pub VerdictFits : Completion → Task → Type 0
 VerdictFits (HasAnswered st) k = Unit {0}
 VerdictFits (Refused st) k = (k.high ≡ 0) × (k.kept ≡ None) × (status_code st ≡ status_code Good → ⊥)
 
-abbrev pub NoteFits : Note → Task → Type 0
-NoteFits (Complete v) k = VerdictFits v k
+abbrev pub NoteFits : TargetMessage → Task → Type 0
+NoteFits (CommandComplete v) k = VerdictFits v k
 NoteFits n k = Unit {0}
 
-abbrev pub ShownFits : Showing → Task → Type 0
-ShownFits Choosing k = Unit {0}
-ShownFits Hearing k = Unit {0}
-ShownFits (Sending n) k = k.fresh ≡ false
-ShownFits (Receiving n) k = k.fresh ≡ false
-ShownFits (Telling v) k = VerdictFits v k
-ShownFits (Saying n sent) k = NoteFits n k
+abbrev pub ShownFits : TaskPhase → Task → Type 0
+ShownFits ToChoose k = Unit {0}
+ShownFits MessageOut k = Unit {0}
+ShownFits (DataIn n) k = k.fresh ≡ false
+ShownFits (DataOut n) k = k.fresh ≡ false
+ShownFits (Status v) k = VerdictFits v k
+ShownFits (MessageIn n sent) k = NoteFits n k
 
 -- a connected task that isn't a sense task
 pub record IsAtWork (g : Plan) (i : ℕ) (tickets : ℕ → Ticket) (t : Target) (c : Connection) : Type 0 where
@@ -80,9 +80,9 @@ pub record IsAtWork (g : Plan) (i : ℕ) (tickets : ℕ → Ticket) (t : Target)
   pub sound : (u : LogicalUnit) → unit_at t.units c.lun ≡ Some u → IsSound (session u c)
   pub worth : ShownFits c.shows c.task
 
-abbrev pub LinkKept : Link → Plan → ℕ → (ℕ → Ticket) → Target → Type 0
-LinkKept (Working c) g i tickets t = IsAtWork g i tickets t c
-LinkKept (Straying s n) g i tickets t = ⊥
+abbrev pub LinkKept : ConnectionState → Plan → ℕ → (ℕ → Ticket) → Target → Type 0
+LinkKept (TaskConnected c) g i tickets t = IsAtWork g i tickets t c
+LinkKept (RogueConnected s n) g i tickets t = ⊥
 LinkKept _ g i tickets t = Unit {0}
 
 -- every unit of the target

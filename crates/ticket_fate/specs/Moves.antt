@@ -9,21 +9,22 @@ use Rattle.unit_law.specs.Log.{View, with_at}
 use Rattle.unit_law.specs.Request.{command}
 use Rattle.target_law.specs.declared.moves.Move.{Move}
 use Rattle.target_law.specs.declared.nexus.Nexus.{Nexus}
-use Rattle.target_law.specs.declared.showing.Note.{Note}
-use Rattle.target_law.specs.declared.showing.Note.TheVariants.{Complete, LeaveNow}
-use Rattle.target_law.specs.declared.showing.Showing.TheVariants.{Choosing, Receiving, Saying}
-use Rattle.target_law.specs.declared.showing.Verdict.{Verdict}
-use Rattle.target_law.specs.declared.showing.Verdict.TheVariants.{Answered as HasAnswered, Refused}
+use Rattle.target_law.specs.declared.task_phase.TargetMessage.{TargetMessage}
+use Rattle.target_law.specs.declared.task_phase.TargetMessage.TheVariants.{CommandComplete, Disconnect}
+use Rattle.target_law.specs.declared.task_phase.TaskPhase.TheVariants.{ToChoose, DataOut, MessageIn}
+use Rattle.target_law.specs.declared.task_phase.Completion.{Completion}
+use Rattle.target_law.specs.declared.task_phase.Completion.TheVariants.{Answered as HasAnswered, Refused}
 use Rattle.target_law.specs.Session.{Task, Session, Can, acted, closed, began}
 use Rattle.target_law.specs.Bytes.{Connection, byte_by, sent_by, took_by, heard_by, away}
-use Rattle.target_law.specs.Target.{LogicalUnit, Link, Free, Greeted, Commanded, Working, Straying, Target, unit_at, with_unit, session, linked, ends, leaves, drops, target_reset}
+use Rattle.target_law.specs.Target as connection_state
+use Rattle.target_law.specs.Target.{LogicalUnit, ConnectionState, BusFree, TakingCommand, TaskConnected, RogueConnected, Target, unit_at, with_unit, session, linked, ends, leaves, drops, target_reset}
 use Rattle.target_law.specs.Calls.{target_acted, task_reselected, begun, has_ended}
 use Rattle.logs_have_room.specs.Room.{entries}
 use Rattle.ticket_fate.specs.Tickets.{Plan, unit_of, Life, Unbuilt, Built, Linked, ToRequeue, Waits, Selected, Connected, Away, Lost, Rejected, Finished, Checked, Asks, AskStarts, AskConnected, AskLost, Asked, Ended, Unlinked, Freed, Ticket, with_life, built_ticket, queued_ticket, freed_ticket, ticket_sent, view_for}
 use Rattle.ticket_fate.specs.Linked.{reset_tickets}
 
 -- what the verdict that is shown says: LASTP stands at the position, and STATUS has the byte
-abbrev pub CompletesTicket : Verdict → Plan → ℕ → Ticket → Session → Ticket → Type 0
+abbrev pub CompletesTicket : Completion → Plan → ℕ → Ticket → Session → Ticket → Type 0
 CompletesTicket (HasAnswered st) g t k s j = (k.lastp ≡ s.task.position) × (k.status ≡ status_code st) × (j ≡ with_life k (Finished Done))
 CompletesTicket (Refused st) g t k s j = (k.status ≡ status_code st) × (j ≡ with_life k (Rejected st))
 
@@ -69,12 +70,12 @@ CanMark (Freed o) = ⊥
 CanMark _ = Unit {0}
 
 -- no task is connected
-abbrev pub IsIdle : Link → Type 0
-IsIdle Free = Unit {0}
-IsIdle (Greeted heard) = Unit {0}
-IsIdle (Commanded n taken) = Unit {0}
-IsIdle (Working c) = ⊥
-IsIdle (Straying s n) = ⊥
+abbrev pub IsIdle : ConnectionState → Type 0
+IsIdle BusFree = Unit {0}
+IsIdle (connection_state.Selected heard) = Unit {0}
+IsIdle (TakingCommand n taken) = Unit {0}
+IsIdle (TaskConnected c) = ⊥
+IsIdle (RogueConnected s n) = ⊥
 
 abbrev pub target_of : Plan → ℕ → ℕ
 target_of g x = (g.units (unit_of g x)).target
@@ -87,22 +88,22 @@ pub data Moves (g : Plan) (count : ℕ) : (ℕ → Ticket) → (ℕ → Target) 
       → TicketMove g x (view_for g x u.log) (ks x) k → Moves g count ks ts (with_at ks x k) ts
   points : {ks : ℕ → Ticket} {ts : ℕ → Target} (x lastp savep : ℕ) → (ks x).life ≡ Connected → Moves g count ks ts (with_at ks x (pointed_ticket (ks x) lastp savep)) ts
   marks : {ks : ℕ → Ticket} {ts : ℕ → Target} (x : ℕ) → CanMark (ks x).life → Moves g count ks ts (with_at ks x (marked_ticket (ks x))) ts
-  relinks : {ks : ℕ → Ticket} {ts : ℕ → Target} (i : ℕ) (l : Link) → IsIdle (ts i).link → IsIdle l → Moves g count ks ts ks (with_at ts i (linked (ts i) l))
-  acts : {ks : ℕ → Ticket} {ts : ℕ → Target} (i : ℕ) (c : Connection) (u : LogicalUnit) (m : Move) (limit refused : ℕ) → (ts i).link ≡ Working c → unit_at (ts i).units c.lun ≡ Some u → c.shows ≡ Choosing
+  relinks : {ks : ℕ → Ticket} {ts : ℕ → Target} (i : ℕ) (l : ConnectionState) → IsIdle (ts i).link → IsIdle l → Moves g count ks ts ks (with_at ts i (linked (ts i) l))
+  acts : {ks : ℕ → Ticket} {ts : ℕ → Target} (i : ℕ) (c : Connection) (u : LogicalUnit) (m : Move) (limit refused : ℕ) → (ts i).link ≡ TaskConnected c → unit_at (ts i).units c.lun ≡ Some u → c.shows ≡ ToChoose
       → Can m (session u c) limit refused → Moves g count ks ts (with_at ks c.task.ticket (record (ks c.task.ticket) { task = (acted m (session u c)).task })) (with_at ts i (target_acted (ts i) m))
-  sends : {ks : ℕ → Ticket} {ts : ℕ → Target} (i : ℕ) (c : Connection) (at b : ℕ) → (ts i).link ≡ Working c → at ≡ c.task.position → byte_by c.shows c.task c.lun ≡ Some b
-      → Moves g count ks ts (with_at ks c.task.ticket (ticket_sent c.shows at b (ks c.task.ticket) (sent_by c.shows c).task)) (with_at ts i (linked (ts i) (Working (sent_by c.shows c))))
-  receives : {ks : ℕ → Ticket} {ts : ℕ → Target} (i : ℕ) (c : Connection) (n at b : ℕ) → (ts i).link ≡ Working c → c.shows ≡ Receiving n → at ≡ c.task.position → slice_get (ks c.task.ticket).buffer at ≡ Some b
-      → Moves g count ks ts (with_at ks c.task.ticket (record (ks c.task.ticket) { task = (took_by (Receiving n) c b).task })) (with_at ts i (linked (ts i) (Working (took_by (Receiving n) c b))))
-  hears : {ks : ℕ → Ticket} {ts : ℕ → Target} (i : ℕ) (c : Connection) (n : Note) (s : Bool) → (ts i).link ≡ Working c → c.shows ≡ Saying n s → ((v : Verdict) → n ≡ Complete v → ⊥) → (n ≡ LeaveNow → ⊥)
-      → Moves g count ks ts (with_at ks c.task.ticket (record (ks c.task.ticket) { task = (heard_by n c).task })) (with_at ts i (linked (ts i) (Working (heard_by n c))))
-  leaves_bus : {ks : ℕ → Ticket} {ts : ℕ → Target} (i : ℕ) (c : Connection) (u : LogicalUnit) → (ts i).link ≡ Working c → unit_at (ts i).units c.lun ≡ Some u → (ks c.task.ticket).savep ≡ c.task.saved
+  sends : {ks : ℕ → Ticket} {ts : ℕ → Target} (i : ℕ) (c : Connection) (at b : ℕ) → (ts i).link ≡ TaskConnected c → at ≡ c.task.position → byte_by c.shows c.task c.lun ≡ Some b
+      → Moves g count ks ts (with_at ks c.task.ticket (ticket_sent c.shows at b (ks c.task.ticket) (sent_by c.shows c).task)) (with_at ts i (linked (ts i) (TaskConnected (sent_by c.shows c))))
+  receives : {ks : ℕ → Ticket} {ts : ℕ → Target} (i : ℕ) (c : Connection) (n at b : ℕ) → (ts i).link ≡ TaskConnected c → c.shows ≡ DataOut n → at ≡ c.task.position → slice_get (ks c.task.ticket).buffer at ≡ Some b
+      → Moves g count ks ts (with_at ks c.task.ticket (record (ks c.task.ticket) { task = (took_by (DataOut n) c b).task })) (with_at ts i (linked (ts i) (TaskConnected (took_by (DataOut n) c b))))
+  hears : {ks : ℕ → Ticket} {ts : ℕ → Target} (i : ℕ) (c : Connection) (n : TargetMessage) (s : Bool) → (ts i).link ≡ TaskConnected c → c.shows ≡ MessageIn n s → ((v : Completion) → n ≡ CommandComplete v → ⊥) → (n ≡ Disconnect → ⊥)
+      → Moves g count ks ts (with_at ks c.task.ticket (record (ks c.task.ticket) { task = (heard_by n c).task })) (with_at ts i (linked (ts i) (TaskConnected (heard_by n c))))
+  leaves_bus : {ks : ℕ → Ticket} {ts : ℕ → Target} (i : ℕ) (c : Connection) (u : LogicalUnit) → (ts i).link ≡ TaskConnected c → unit_at (ts i).units c.lun ≡ Some u → (ks c.task.ticket).savep ≡ c.task.saved
       → Moves g count ks ts (with_at ks c.task.ticket (record (ks c.task.ticket) { life = Away; task = away c.task })) (with_at ts i (leaves (ts i) c u))
-  completes : {ks : ℕ → Ticket} {ts : ℕ → Target} (i : ℕ) (c : Connection) (u : LogicalUnit) (v : Verdict) (s : Bool) (k : Ticket) → (ts i).link ≡ Working c → unit_at (ts i).units c.lun ≡ Some u
-      → c.shows ≡ Saying (Complete v) s → CompletesTicket v g c.task.ticket (ks c.task.ticket) (session u c) k
+  completes : {ks : ℕ → Ticket} {ts : ℕ → Target} (i : ℕ) (c : Connection) (u : LogicalUnit) (v : Completion) (s : Bool) (k : Ticket) → (ts i).link ≡ TaskConnected c → unit_at (ts i).units c.lun ≡ Some u
+      → c.shows ≡ MessageIn (CommandComplete v) s → CompletesTicket v g c.task.ticket (ks c.task.ticket) (session u c) k
       → Moves g count ks ts (with_at ks c.task.ticket k) (with_at ts i (ends (ts i) c u (closed v (session u c))))
-  drops_task : {ks : ℕ → Ticket} {ts : ℕ → Target} (i : ℕ) (c : Connection) (u : LogicalUnit) → (ts i).link ≡ Working c → unit_at (ts i).units c.lun ≡ Some u → (ks c.task.ticket).marked ≡ true
-      → Moves g count ks ts (with_at ks c.task.ticket (with_life (ks c.task.ticket) (Finished Cut))) (with_at ts i (record { units = with_unit (ts i).units c.lun (drops u c.task); link = Free }))
+  drops_task : {ks : ℕ → Ticket} {ts : ℕ → Target} (i : ℕ) (c : Connection) (u : LogicalUnit) → (ts i).link ≡ TaskConnected c → unit_at (ts i).units c.lun ≡ Some u → (ks c.task.ticket).marked ≡ true
+      → Moves g count ks ts (with_at ks c.task.ticket (with_life (ks c.task.ticket) (Finished Cut))) (with_at ts i (record { units = with_unit (ts i).units c.lun (drops u c.task); link = BusFree }))
   reselects : {ks : ℕ → Ticket} {ts : ℕ → Target} (n m : ℕ) (u : LogicalUnit) (k : Task) → n < count → IsIdle (ts (g.units n).target).link → unit_at (ts (g.units n).target).units (g.units n).lun ≡ Some u → slice_get u.tasks m ≡ Some k
       → Moves g count ks ts (with_at ks k.ticket (record (ks k.ticket) { life = Connected; task = k })) (with_at ts (g.units n).target (task_reselected (ts (g.units n).target) (g.units n).lun m u (Some k)))
   begins : {ks : ℕ → Ticket} {ts : ℕ → Target} (x : ℕ) (n : Nexus) (u : LogicalUnit) → IsIdle (ts (target_of g x)).link → unit_at (ts (target_of g x)).units n.lun ≡ Some u → n.lun ≡ (g.units (unit_of g x)).lun
@@ -110,5 +111,5 @@ pub data Moves (g : Plan) (count : ℕ) : (ℕ → Ticket) → (ℕ → Target) 
       → Moves g count ks ts (with_at ks x (record (ks x) { life = Connected; task = began n.tag x (command (g.requests x)) u.rig.disconnects (has_ended u.log x) }))
       (with_at ts (target_of g x) (begun (ts (target_of g x)) n (command (g.requests x)) u x))
   resets_idle : {ks : ℕ → Ticket} {ts : ℕ → Target} (i : ℕ) → IsIdle (ts i).link → Moves g count ks ts (reset_tickets g i ks) (with_at ts i (target_reset (ts i)))
-  resets_work : {ks : ℕ → Ticket} {ts : ℕ → Target} (i : ℕ) (c : Connection) (u : LogicalUnit) → (ts i).link ≡ Working c → unit_at (ts i).units c.lun ≡ Some u
+  resets_work : {ks : ℕ → Ticket} {ts : ℕ → Target} (i : ℕ) (c : Connection) (u : LogicalUnit) → (ts i).link ≡ TaskConnected c → unit_at (ts i).units c.lun ≡ Some u
       → Moves g count ks ts (reset_tickets g i (with_at ks c.task.ticket (parts_ticket ks c))) (with_at ts i (target_reset (ts i)))

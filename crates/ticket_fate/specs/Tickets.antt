@@ -8,20 +8,21 @@ use Rattle.rig_types.specs.declared.rig.Unit.{Unit as RigUnit}
 use Rattle.rig_types.specs.declared.report.Outcome.{Outcome}
 use Rattle.rig_types.specs.declared.report.Outcome.TheVariants.{Done}
 use Rattle.rig_types.specs.declared.report.Report.{Report}
-use Rattle.plain_lun.specs.Unit.{Plain, opened}
+use Rattle.plain_lun.specs.Unit.{UnitState, opened}
 use Rattle.unit_law.specs.declared.entry.LogEntry.{LogEntry}
-use Rattle.unit_law.specs.Request.{PlainRequest, command}
+use Rattle.unit_law.specs.Request.{RequestData, command}
 use Rattle.unit_law.specs.Log.{Tally, View, view_of}
-use Rattle.unit_law.specs.Report.{Setting, Course, no_status}
+use Rattle.unit_law.specs.Report.{UnitSetting, TicketHistory, no_status}
 use Rattle.logs_have_room.specs.Room.{entries}
-use Rattle.target_law.specs.declared.showing.Showing.{Showing}
-use Rattle.target_law.specs.declared.showing.Showing.TheVariants.{Sending, Telling}
+use Rattle.target_law.specs.declared.task_phase.TaskPhase.{TaskPhase}
+use Rattle.target_law.specs.declared.task_phase.TaskPhase.TheVariants as task_phase
+use Rattle.target_law.specs.declared.task_phase.TaskPhase.TheVariants.{DataIn}
 use Rattle.target_law.specs.Session.{Task}
 use Rattle.target_law.specs.Bytes.{put}
 
 -- what stays for a whole run: the requests by ticket, the units by their numbers, and the rig's word on retries and autosense
 pub record Plan : Type 0 where
-  pub requests : ℕ → PlainRequest
+  pub requests : ℕ → RequestData
   pub units : ℕ → RigUnit
   pub retries : ℕ
   pub autosense : Bool
@@ -29,14 +30,14 @@ pub record Plan : Type 0 where
 abbrev pub unit_of : Plan → ℕ → ℕ
 unit_of g t = (g.requests t).unit
 
-abbrev pub setting : Plan → ℕ → Setting
+abbrev pub setting : Plan → ℕ → UnitSetting
 setting g n = record { retries = g.retries; autosense = g.autosense; absent = (g.units n).absent; rogue = (g.units n).rogue }
 
-unfoldable pub opening : Plan → ℕ → Plain
+unfoldable pub opening : Plan → ℕ → UnitState
 opening g n = opened (g.units n).blocks (g.units n).pattern
 
 -- what the driver accepts: a command in form whose need goes the buffer's way and has room in it
-pub record IsAccepted (r : PlainRequest) : Type 0 where
+pub record IsAccepted (r : RequestData) : Type 0 where
   pub form : FitsForm (command r)
   pub way : 0 < (need_of (command r)).bytes → (need_of (command r)).direction ≡ r.direction
   pub enough : (need_of (command r)).bytes ≤ length r.bytes
@@ -96,11 +97,11 @@ abbrev pub with_life : Ticket → Life → Ticket
 with_life k l = record k { life = l }
 
 -- the history of a ticket with so many Clears, and so many of its entries outside its life; of the causes of Clears nothing is said here
-abbrev pub course_at : (marked : Bool) → (clears : ℕ) → (bus_reset : Bool) → (outside : ℕ) → Course
-course_at marked clears bus_reset outside = record { marked = marked; clears = clears; bus_reset = bus_reset; outside = outside; stray_clears = 0 }
+abbrev pub course_at : (marked : Bool) → (clears : ℕ) → (bus_reset : Bool) → (outside : ℕ) → TicketHistory
+course_at marked clears bus_reset outside = record { marked = marked; clears = clears; bus_reset = bus_reset; outside = outside; uncaused_clears = 0 }
 
 -- the history so far, before its Free
-abbrev pub course_of : (marked : Bool) → (since : ℕ) → (bus_reset : Bool) → View → Course
+abbrev pub course_of : (marked : Bool) → (since : ℕ) → (bus_reset : Bool) → View → TicketHistory
 course_of marked since bus_reset v = course_at marked (v.tally.clears - since) bus_reset 0
 
 -- what a report says of an outcome
@@ -112,7 +113,7 @@ abbrev pub residual_for : Outcome → (status lastp size : ℕ) → ℕ
 residual_for Done status lastp size = if status == status_code Good then size - lastp else size
 residual_for o status lastp size = size
 
-abbrev pub report_of : ℕ → PlainRequest → (status lastp tries : ℕ) → (bytes sense : List ℕ) → Outcome → Report
+abbrev pub report_of : ℕ → RequestData → (status lastp tries : ℕ) → (bytes sense : List ℕ) → Outcome → Report
 report_of t r status lastp tries bytes sense o = record {
   ticket = t;
   unit = r.unit;
@@ -127,7 +128,7 @@ report_of t r status lastp tries bytes sense o = record {
 abbrev pub view_for : Plan → ℕ → List LogEntry → View
 view_for g t log = view_of g.requests (opening g (unit_of g t)) log t
 
-abbrev pub built_ticket : PlainRequest → (tag before : ℕ) → Ticket → Ticket
+abbrev pub built_ticket : RequestData → (tag before : ℕ) → Ticket → Ticket
 built_ticket r tag before k = record k { life = Built; tag = tag; status = no_status; lastp = 0; savep = 0; buffer = r.bytes; area = []; sense = []; marked = false; tries = 0; since = 0; clears = 0; before = before; logged = 0; bus_reset = false }
 
 -- it goes into the start ring; at the first time the Clears so far are noted
@@ -135,9 +136,9 @@ abbrev pub queued_ticket : Ticket → ℕ → Ticket
 queued_ticket k since = record k { life = Waits; status = no_status; lastp = 0; savep = 0; tries = k.tries + 1; since = since }
 
 -- what a byte from the target changes of its ticket: a byte of the data goes to its place in the buffer, a status byte into the block
-abbrev pub ticket_sent : Showing → (at b : ℕ) → Ticket → Task → Ticket
-ticket_sent (Sending n) at b k x = record k { buffer = put k.buffer at b; task = x }
-ticket_sent (Telling v) at b k x = record k { status = b; task = x }
+abbrev pub ticket_sent : TaskPhase → (at b : ℕ) → Ticket → Task → Ticket
+ticket_sent (DataIn n) at b k x = record k { buffer = put k.buffer at b; task = x }
+ticket_sent (task_phase.Status v) at b k x = record k { status = b; task = x }
 ticket_sent _ at b k x = record k { task = x }
 
 -- its Free fixes its history
