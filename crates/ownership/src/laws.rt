@@ -30,9 +30,10 @@ pub fn only_data_moves_touch_data<B: Bus>()
     ensures reads { ReadsControl B.moves }
 {}
 
-/// Where memory of bytes holds the script and the chip runs at a LOAD or a STORE of it, with DSA at a multiple of 4 and
-/// the head of a block from there on in memory, the step goes on: a LOAD has the word of memory in DSA, TEMP, SCRATCHA
-/// or SCRATCHB, a STORE has that register's word in memory, and the bus and all else stay.
+/// Where memory of bytes holds the script and the chip runs at a LOAD or a STORE of it, the step goes on: a LOAD has the
+/// word of memory in DSA, TEMP, SCRATCHA or SCRATCHB, a STORE has that register's word in memory, and the bus and all
+/// else are as the fetch left them. Where its place is from DSA on, DSA is a multiple of 4 with the head of a block from
+/// there on in memory.
 pub fn script_moves_words<B: Bus>()
     ensures loads { LoadsWord B.moves }
     ensures stores { StoresWord B.moves }
