@@ -1,7 +1,7 @@
 //! Laws of the script's steps. Each function does nothing; its contract is the law, for every bus.
 
 ghost use Rattle.ownership.specs.Control.{ChangesControl, ReadsControl};
-ghost use Rattle.ownership.specs.Start.{EntersFront};
+ghost use Rattle.ownership.specs.Start.{EntersFront, EntersRing};
 ghost use Rattle.ownership.specs.Steps.{Follows, IsRow, IsStep, WritesOnly};
 ghost use Rattle.ownership.specs.Transfers.{Interrupts, JumpsTo, ReturnsTo, StopsWith};
 ghost use Rattle.ownership.specs.Words.{LoadsWord, StoresWord};
@@ -51,7 +51,10 @@ pub fn script_transfers<B: Bus>()
 {}
 
 /// START: four steps from 000 on bring the chip to the address in START of the block that FRONT names, with DSA at this
-/// block, where the block's head lies in memory at a multiple of 4. Memory and the bus are as before.
-pub fn start_enters_front<B: Bus>()
-    ensures { EntersFront B.moves }
+/// block and SIGP clear. RING: five steps from 020 on bring it to the block in the slot that RINGP names, with SCRATCHB
+/// at the next slot. Memory and the bus are as before. The slot, and the head of the block, lie in memory at multiples
+/// of 4.
+pub fn start_enters_blocks<B: Bus>()
+    ensures front { EntersFront B.moves }
+    ensures ring { EntersRing B.moves }
 {}
