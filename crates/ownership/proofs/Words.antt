@@ -21,7 +21,7 @@ use Rattle.chip_rows.specs.Words.{IsWordAt}
 use Rattle.chip_rows.proofs.Words as rows
 use Rattle.driver_script.specs.declared.script.TheConstants.{SCRIPT}
 use Rattle.driver_script.specs.Script.{instruction}
-use Rattle.ownership.specs.Words.{IsHead, place_from, LoadedWord, StoredWord, LoadsWord, StoresWord}
+use Rattle.ownership.specs.Words.{IsReached, place_from, LoadedWord, StoredWord, LoadsWord, StoresWord}
 use Rattle.ownership.proofs.Instructions.{all_below, both, below}
 use Rattle.ownership.proofs.Steps.{is_row}
 
@@ -86,7 +86,7 @@ wide-is r t =
     (λ e. record { register = ScratchB; named = same r 0x5c e })
     t
 
-word_place : (m : List ℕ) (dsa : ℕ) (place : Address) → length m ≡ 0x400000 → IsHead dsa → placed place ≡ true → IsWordAt m dsa place (place_from dsa place)
+word_place : (m : List ℕ) (dsa : ℕ) (place : Address) → length m ≡ 0x400000 → IsReached place dsa → placed place ≡ true → IsWordAt m dsa place (place_from dsa place)
 word_place m dsa (At a) s h t =
     let b = both (nat_eq (a % 4) 0) (nat_le (a + 4) 0x400000) t in
     rows.finds_words.absolute m dsa a (sym (same (a % 4) 0 b.0)) (omega (arith, s, most (a + 4) 0x400000 b.1))
@@ -96,7 +96,7 @@ word_place m dsa (FromDsa (pos o)) s h t =
 word_place m dsa (FromDsa (negsuc o)) s h t = absurd (false≢true t)
 
 module _ {B : Type 0} where
-  loads : (r n : ℕ) (place : Address) (old : Chip B) (end : StepEnd) (new : Chip B) → length old.memory ≡ 0x400000 → IsBytes old.memory → IsHead old.regs.dsa → moves_word r n place ≡ true → Loads r n place (after_fetch old) end new → LoadedWord r place old end new
+  loads : (r n : ℕ) (place : Address) (old : Chip B) (end : StepEnd) (new : Chip B) → length old.memory ≡ 0x400000 → IsBytes old.memory → IsReached place old.regs.dsa → moves_word r n place ≡ true → Loads r n place (after_fetch old) end new → LoadedWord r place old end new
   loads r n place old end new s bytes h t d =
       let w = both (wide r && nat_eq n 4) (placed place) t in
       let v = both (wide r) (nat_eq n 4) w.0 in
@@ -116,7 +116,7 @@ module _ {B : Type 0} where
   held-fetched ScratchA old = refl
   held-fetched ScratchB old = refl
 
-  stores : (r n : ℕ) (place : Address) (old : Chip B) (end : StepEnd) (new : Chip B) → length old.memory ≡ 0x400000 → IsHead old.regs.dsa → moves_word r n place ≡ true → Stores r n place (after_fetch old) end new → StoredWord r place old end new
+  stores : (r n : ℕ) (place : Address) (old : Chip B) (end : StepEnd) (new : Chip B) → length old.memory ≡ 0x400000 → IsReached place old.regs.dsa → moves_word r n place ≡ true → Stores r n place (after_fetch old) end new → StoredWord r place old end new
   stores r n place old end new s h t d =
       let w = both (wide r && nat_eq n 4) (placed place) t in
       let v = both (wide r) (nat_eq n 4) w.0 in

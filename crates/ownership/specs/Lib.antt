@@ -4,3 +4,4 @@ pub mod Steps
 pub mod Control
 pub mod Words
 pub mod Transfers
+pub mod Start

@@ -1,6 +1,7 @@
 //! Laws of the script's steps. Each function does nothing; its contract is the law, for every bus.
 
 ghost use Rattle.ownership.specs.Control.{ChangesControl, ReadsControl};
+ghost use Rattle.ownership.specs.Start.{EntersFront, EntersRing};
 ghost use Rattle.ownership.specs.Steps.{Follows, IsRow, IsStep, WritesOnly};
 ghost use Rattle.ownership.specs.Transfers.{Interrupts, JumpsTo, ReturnsTo, StopsWith};
 ghost use Rattle.ownership.specs.Words.{LoadsWord, StoresWord};
@@ -30,9 +31,10 @@ pub fn only_data_moves_touch_data<B: Bus>()
     ensures reads { ReadsControl B.moves }
 {}
 
-/// Where memory of bytes holds the script and the chip runs at a LOAD or a STORE of it, with DSA at a multiple of 4 and
-/// the head of a block from there on in memory, the step goes on: a LOAD has the word of memory in DSA, TEMP, SCRATCHA
-/// or SCRATCHB, a STORE has that register's word in memory, and the bus and all else stay.
+/// Where memory of bytes holds the script and the chip runs at a LOAD or a STORE of it, the step goes on: a LOAD has the
+/// word of memory in DSA, TEMP, SCRATCHA or SCRATCHB, a STORE has that register's word in memory, and the bus and all
+/// else are as the fetch left them. Where its place is from DSA on, DSA is a multiple of 4 with the head of a block from
+/// there on in memory.
 pub fn script_moves_words<B: Bus>()
     ensures loads { LoadsWord B.moves }
     ensures stores { StoresWord B.moves }
@@ -46,4 +48,13 @@ pub fn script_transfers<B: Bus>()
     ensures returns { ReturnsTo B.moves }
     ensures stops { StopsWith B.moves }
     ensures interrupts { Interrupts B.moves }
+{}
+
+/// START: four steps from 000 on bring the chip to the address in START of the block that FRONT names, with DSA at this
+/// block and SIGP clear. RING: five steps from 020 on bring it to the block in the slot that RINGP names, with SCRATCHB
+/// at the next slot. Memory and the bus are as before. The slot, and the head of the block, lie in memory at multiples
+/// of 4.
+pub fn start_enters_blocks<B: Bus>()
+    ensures front { EntersFront B.moves }
+    ensures ring { EntersRing B.moves }
 {}

@@ -5,5 +5,5 @@ mod laws;
 
 pub use laws::{
     only_data_moves_touch_data, script_moves_words, script_steps, script_transfers,
-    script_writes_only,
+    script_writes_only, start_enters_blocks,
 };
