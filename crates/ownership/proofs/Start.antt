@@ -10,7 +10,7 @@ use Rattle.chip_regs.specs.Bytes.{Wide, Dsa, Temp, ScratchA, ScratchB, base_of, 
 use Rattle.chip_regs.specs.declared.registers.Regs.{Regs}
 use Rattle.chip_step.specs.Event.{Event}
 use Rattle.chip_step.specs.Chip.{Chip, Becomes}
-use Rattle.chip_step.specs.Step.{Ran, after_fetch}
+use Rattle.chip_step.specs.Step.{ChipStep, after_fetch}
 use Rattle.chip_step.specs.declared.outcome.StepEnd.{StepEnd}
 use Rattle.chip_rows.proofs.Leaving.{runs_on}
 use Rattle.driver_script.specs.Script.{instruction, IsLoaded}
@@ -37,19 +37,19 @@ one_register x y e = sym (at_base-is x) ∙ ap at_base e ∙ at_base-is y
 
 module _ {B : Type 0} (moves : B → Event → B → Type 0) where
   -- where only registers changed and DSP is at the next instruction, the chip stands there
-  stands_on : (version k word : ℕ) (old : Chip B) (end : StepEnd) (new : Chip B) (regs : Regs) → StandsAt version k old → Ran moves word old end new → Becomes regs (after_fetch old) end new → regs.dsp ≡ (after_fetch old).regs.dsp → suc k < 151 → StandsAt version (suc k) new
+  stands_on : (version k word : ℕ) (old : Chip B) (end : StepEnd) (new : Chip B) (regs : Regs) → StandsAt version k old → ChipStep moves word old end new → Becomes regs (after_fetch old) end new → regs.dsp ≡ (after_fetch old).regs.dsp → suc k < 151 → StandsAt version (suc k) new
   stands_on version k word old end new regs s r b e h =
       let d : regs.dsp ≡ 8 * k + 8 = e ∙ follows version k old s in
       let q : 8 * k + 8 ≡ 8 * suc k = omega arith in
       record {
         size = ap (λ (m : List ℕ). length m) b.ends.memory_is ∙ s.size;
         loaded = subst (λ (m : List ℕ). IsLoaded (word_at m) version) (sym b.ends.memory_is) s.loaded;
-        running = runs_on moves word old new (subst (λ (x : StepEnd). Ran moves word old x new) b.ends.is r);
+        running = runs_on moves word old new (subst (λ (x : StepEnd). ChipStep moves word old x new) b.ends.is r);
         dsp = ap (λ (x : Regs). x.dsp) b.ends.regs_are ∙ d ∙ q;
         inside = h;
       }
 
-  load_into : (x : Wide) (version k word : ℕ) (place : Address) (old : Chip B) (end : StepEnd) (new : Chip B) → StandsAt version k old → IsBytes old.memory → IsReached place old.regs.dsa → instruction k version ≡ Load (base_of x) 4 place → Ran moves word old end new
+  load_into : (x : Wide) (version k word : ℕ) (place : Address) (old : Chip B) (end : StepEnd) (new : Chip B) → StandsAt version k old → IsBytes old.memory → IsReached place old.regs.dsa → instruction k version ≡ Load (base_of x) 4 place → ChipStep moves word old end new
       → Becomes (holding x (word_at old.memory (place_from old.regs.dsa place)) (after_fetch old).regs) (after_fetch old) end new
   load_into x version k word place old end new s bytes h e r =
       let l : LoadedWord (base_of x) place old end new = loads_word moves version k word (base_of x) 4 place old end new s bytes h e r in
@@ -82,7 +82,7 @@ module _ {B : Type 0} (moves : B → Event → B → Type 0) where
         record {
           memory = b3.ends.memory_is ∙ m3;
           bus = b3.bus_is ∙ b2.bus_is ∙ b1.bus_is ∙ b0.bus_is;
-          running = runs_on moves (word 3) (chip 3) (chip 4) (subst (λ (x : StepEnd). Ran moves (word 3) (chip 3) x (chip 4)) b3.ends.is r3);
+          running = runs_on moves (word 3) (chip 3) (chip 4) (subst (λ (x : StepEnd). ChipStep moves (word 3) (chip 3) x (chip 4)) b3.ends.is r3);
           dsa = ap (λ (x : Regs). x.dsa) b3.ends.regs_are ∙ d3;
           dsp = ap (λ (x : Regs). x.dsp) b3.ends.regs_are ∙ t3;
         },
@@ -120,7 +120,7 @@ module _ {B : Type 0} (moves : B → Event → B → Type 0) where
         record {
           memory = b4.ends.memory_is ∙ b3.ends.memory_is ∙ m3;
           bus = b4.bus_is ∙ b3.bus_is ∙ b2.bus_is ∙ b1.bus_is ∙ b0.bus_is;
-          running = runs_on moves (word 4) (chip 4) (chip 5) (subst (λ (x : StepEnd). Ran moves (word 4) (chip 4) x (chip 5)) b4.ends.is r4);
+          running = runs_on moves (word 4) (chip 4) (chip 5) (subst (λ (x : StepEnd). ChipStep moves (word 4) (chip 4) x (chip 5)) b4.ends.is r4);
           dsa = ap (λ (x : Regs). x.dsa) b4.ends.regs_are ∙ ap (λ (x : Regs). x.dsa) b3.ends.regs_are ∙ d3;
           dsp = ap (λ (x : Regs). x.dsp) b4.ends.regs_are ∙ t4;
         },

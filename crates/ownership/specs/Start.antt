@@ -8,7 +8,7 @@ use Rattle.cmd_block.specs.declared.Field.TheVariants.{Start}
 use Rattle.chip_regs.specs.Registers.{is_stopped}
 use Rattle.chip_step.specs.Event.{Event}
 use Rattle.chip_step.specs.Chip.{Chip}
-use Rattle.chip_step.specs.Step.{Ran}
+use Rattle.chip_step.specs.Step.{ChipStep}
 use Rattle.chip_step.specs.declared.outcome.StepEnd.{StepEnd}
 use Rattle.ownership.specs.Standing.{StandsAt}
 use Rattle.ownership.specs.Words.{IsHead}
@@ -25,7 +25,7 @@ pub record EntersBlock {B : Type 0} (block : ℕ) (old new : Chip B) : Type 0 wh
 abbrev pub EntersFront : {B : Type 0} → (B → Event → B → Type 0) → Type 0
 EntersFront {B} moves =
     (version : ℕ) (chip : ℕ → Chip B) (word : ℕ → ℕ) (end : ℕ → StepEnd) → StandsAt version 0 (chip 0) → IsBytes (chip 0).memory
-    → IsHead (word_at (chip 0).memory FRONT) → ((i : ℕ) → i < 4 → Ran moves (word i) (chip i) (end i) (chip (i + 1)))
+    → IsHead (word_at (chip 0).memory FRONT) → ((i : ℕ) → i < 4 → ChipStep moves (word i) (chip i) (end i) (chip (i + 1)))
     → EntersBlock (word_at (chip 0).memory FRONT) (chip 0) (chip 4) × ((chip 4).regs.sigp ≡ false)
 
 -- five steps from 020 on come to the block in the slot that RINGP names, with SCRATCHB at the next slot
@@ -33,5 +33,5 @@ abbrev pub EntersRing : {B : Type 0} → (B → Event → B → Type 0) → Type
 EntersRing {B} moves =
     (version slot block : ℕ) (chip : ℕ → Chip B) (word : ℕ → ℕ) (end : ℕ → StepEnd) → StandsAt version 4 (chip 0) → IsBytes (chip 0).memory
     → slot ≡ word_at (chip 0).memory RINGP → block ≡ word_at (chip 0).memory slot → IsHead slot → IsHead block
-    → ((i : ℕ) → i < 5 → Ran moves (word i) (chip i) (end i) (chip (i + 1)))
+    → ((i : ℕ) → i < 5 → ChipStep moves (word i) (chip i) (end i) (chip (i + 1)))
     → EntersBlock block (chip 0) (chip 5) × ((chip 5).regs.scratchb ≡ word_at (chip 0).memory (slot + 4))

@@ -8,7 +8,7 @@ use Rattle.scripts_ops.specs.declared.values.Op.TheVariants.{Load, Store}
 use Rattle.chip_regs.specs.Bytes.{Wide, base_of, held, holding}
 use Rattle.chip_step.specs.Event.{Event}
 use Rattle.chip_step.specs.Chip.{Chip, Becomes}
-use Rattle.chip_step.specs.Step.{Ran, after_fetch}
+use Rattle.chip_step.specs.Step.{ChipStep, after_fetch}
 use Rattle.chip_step.specs.declared.outcome.StepEnd.{StepEnd}
 use Rattle.driver_script.specs.Script.{instruction}
 use Rattle.ownership.specs.Standing.{StandsAt}
@@ -44,9 +44,9 @@ pub record StoredWord {B : Type 0} (r : ℕ) (place : Address) (old : Chip B) (e
 abbrev pub LoadsWord : {B : Type 0} → (B → Event → B → Type 0) → Type 0
 LoadsWord {B} moves =
     (version k word r n : ℕ) (place : Address) (old : Chip B) (end : StepEnd) (new : Chip B) → StandsAt version k old → IsBytes old.memory
-    → IsReached place old.regs.dsa → instruction k version ≡ Load r n place → Ran moves word old end new → LoadedWord r place old end new
+    → IsReached place old.regs.dsa → instruction k version ≡ Load r n place → ChipStep moves word old end new → LoadedWord r place old end new
 
 abbrev pub StoresWord : {B : Type 0} → (B → Event → B → Type 0) → Type 0
 StoresWord {B} moves =
     (version k word r n : ℕ) (place : Address) (old : Chip B) (end : StepEnd) (new : Chip B) → StandsAt version k old
-    → IsReached place old.regs.dsa → instruction k version ≡ Store r n place → Ran moves word old end new → StoredWord r place old end new
+    → IsReached place old.regs.dsa → instruction k version ≡ Store r n place → ChipStep moves word old end new → StoredWord r place old end new

@@ -5,14 +5,14 @@ use Rattle.scsi_words.specs.declared.phases.kinds.Phase.{Phase as BusPhase}
 use Rattle.scsi_words.specs.declared.phases.kinds.Phase.TheVariants as phase
 use Rattle.chip_step.specs.Event.{ByteIn, ByteOut, SetAtn, ClearAck}
 use Rattle.target_law.specs.declared.nexus.Nexus.{Nexus}
-use Rattle.target_law.specs.declared.showing.Note.{Note}
-use Rattle.target_law.specs.declared.showing.Showing.{Showing}
-use Rattle.target_law.specs.declared.showing.Showing.TheVariants.{Choosing, Hearing, Sending, Receiving, Telling, Saying}
-use Rattle.target_law.specs.declared.stray.Stray.{Stray}
-use Rattle.target_law.specs.declared.stray.Stray.TheVariants as stray
+use Rattle.target_law.specs.declared.task_phase.TargetMessage.{TargetMessage}
+use Rattle.target_law.specs.declared.task_phase.TaskPhase.{TaskPhase}
+use Rattle.target_law.specs.declared.task_phase.TaskPhase.TheVariants.{ToChoose, MessageOut, DataIn, DataOut, Status, MessageIn}
+use Rattle.target_law.specs.declared.rogue_phase.RoguePhase.{RoguePhase}
+use Rattle.target_law.specs.declared.rogue_phase.RoguePhase.TheVariants as rogue_shows
 use Rattle.target_law.specs.Bytes.{Connection, phase_of, byte_by, takes_by, sent_by}
-use Rattle.target_law.specs.Strays.{stray_phase, stray_byte, stray_takes, stray_sent}
-use Rattle.target_law.specs.Target.{LogicalUnit, linked, Link, Free, Greeted, Commanded, Working, Straying, Target, unit_at}
+use Rattle.target_law.specs.RoguePhases.{rogue_phase, rogue_byte, rogue_takes, rogue_sent}
+use Rattle.target_law.specs.Target.{LogicalUnit, linked, ConnectionState, BusFree, Selected, TakingCommand, TaskConnected, RogueConnected, Target, unit_at}
 use Rattle.target_law.specs.Beginning.{has_place, where_placed, begins_if, took_where, target_took}
 use Rattle.target_law.specs.Calls.{is_free, link_phase, link_byte, link_takes, link_sent, sent_if, WaitsForAck, nexus_of, is_whole, target_begun}
 use Rattle.target_law.specs.Devices.{DeviceState}
@@ -24,44 +24,44 @@ use Rattle.bus_law.proofs.OneConnected.{stays_connected}
 use Rattle.target_bus.specs.Fields.{bus_of, IsHeldBus, kept_if, ticket_on, ack_by}
 
 -- what is known while a message byte waits for ACK
-pub record Waits (l : Link) : Type 0 where
+pub record Waits (l : ConnectionState) : Type 0 where
   pub shown : link_phase l ≡ Some phase.MsgIn
   pub takes : link_takes l ≡ false
   pub none : link_byte l ≡ None
 
-pub waits : (l : Link) → WaitsForAck l → Waits l
-waits Free w = absurd w
-waits (Greeted heard) w = absurd w
-waits (Commanded n taken) w = absurd w
-waits (Working c) w = record { shown = ap phase_of w.1; takes = ap takes_by w.1; none = ap (λ (s : Showing). byte_by s c.task c.lun) w.1 }
-waits (Straying s n) (inl w) = record { shown = ap stray_phase w.1; takes = ap stray_takes w.1; none = ap (λ (x : Stray). stray_byte x n) w.1 }
-waits (Straying s n) (inr w) = record { shown = ap stray_phase w.1; takes = ap stray_takes w.1; none = ap (λ (x : Stray). stray_byte x n) w.1 }
+pub waits : (l : ConnectionState) → WaitsForAck l → Waits l
+waits BusFree w = absurd w
+waits (Selected heard) w = absurd w
+waits (TakingCommand n taken) w = absurd w
+waits (TaskConnected c) w = record { shown = ap phase_of w.1; takes = ap takes_by w.1; none = ap (λ (s : TaskPhase). byte_by s c.task c.lun) w.1 }
+waits (RogueConnected s n) (inl w) = record { shown = ap rogue_phase w.1; takes = ap rogue_takes w.1; none = ap (λ (x : RoguePhase). rogue_byte x n) w.1 }
+waits (RogueConnected s n) (inr w) = record { shown = ap rogue_phase w.1; takes = ap rogue_takes w.1; none = ap (λ (x : RoguePhase). rogue_byte x n) w.1 }
 
 -- a byte of MSG_IN that is sent waits for it
-said : (s : Showing) (c : Connection) → phase_of s ≡ Some phase.MsgIn → (n : Note) × ((sent_by s c).shows ≡ Saying n true)
-said Choosing c e = absurd cc
-said Hearing c e = absurd (let f : Some phase.MsgOut ≡ Some phase.MsgIn = e in cc)
-said (Sending n) c e = absurd (let f : Some phase.DataIn ≡ Some phase.MsgIn = e in cc)
-said (Receiving n) c e = absurd (let f : Some phase.DataOut ≡ Some phase.MsgIn = e in cc)
-said (Telling v) c e = absurd (let f : Some phase.Status ≡ Some phase.MsgIn = e in cc)
-said (Saying n sent) c e = (n, refl)
+said : (s : TaskPhase) (c : Connection) → phase_of s ≡ Some phase.MsgIn → (n : TargetMessage) × ((sent_by s c).shows ≡ MessageIn n true)
+said ToChoose c e = absurd cc
+said MessageOut c e = absurd (let f : Some phase.MsgOut ≡ Some phase.MsgIn = e in cc)
+said (DataIn n) c e = absurd (let f : Some phase.DataIn ≡ Some phase.MsgIn = e in cc)
+said (DataOut n) c e = absurd (let f : Some phase.DataOut ≡ Some phase.MsgIn = e in cc)
+said (Status v) c e = absurd (let f : Some phase.Status ≡ Some phase.MsgIn = e in cc)
+said (MessageIn n sent) c e = (n, refl)
 
-strays-said : (s : Stray) (n : Option Nexus) → stray_phase s ≡ Some phase.MsgIn → WaitsForAck (Straying (stray_sent s) n)
-strays-said stray.Choosing n e = absurd cc
-strays-said stray.Hearing n e = absurd (let f : Some phase.MsgOut ≡ Some phase.MsgIn = e in cc)
-strays-said (stray.Sending left b) n e = absurd (let f : Some phase.DataIn ≡ Some phase.MsgIn = e in cc)
-strays-said (stray.Receiving left) n e = absurd (let f : Some phase.DataOut ≡ Some phase.MsgIn = e in cc)
-strays-said (stray.Commanding left) n e = absurd (let f : Some phase.Command ≡ Some phase.MsgIn = e in cc)
-strays-said (stray.Telling b) n e = absurd (let f : Some phase.Status ≡ Some phase.MsgIn = e in cc)
-strays-said (stray.Saying b sent) n e = inl (b, refl)
-strays-said (stray.Naming p sent) n e = inr (p, refl)
+strays-said : (s : RoguePhase) (n : Option Nexus) → rogue_phase s ≡ Some phase.MsgIn → WaitsForAck (RogueConnected (rogue_sent s) n)
+strays-said rogue_shows.ToChoose n e = absurd cc
+strays-said rogue_shows.MessageOut n e = absurd (let f : Some phase.MsgOut ≡ Some phase.MsgIn = e in cc)
+strays-said (rogue_shows.DataIn left b) n e = absurd (let f : Some phase.DataIn ≡ Some phase.MsgIn = e in cc)
+strays-said (rogue_shows.DataOut left) n e = absurd (let f : Some phase.DataOut ≡ Some phase.MsgIn = e in cc)
+strays-said (rogue_shows.Command left) n e = absurd (let f : Some phase.Command ≡ Some phase.MsgIn = e in cc)
+strays-said (rogue_shows.Status b) n e = absurd (let f : Some phase.Status ≡ Some phase.MsgIn = e in cc)
+strays-said (rogue_shows.MessageIn b sent) n e = inl (b, refl)
+strays-said (rogue_shows.Reselection p sent) n e = inr (p, refl)
 
-sent-waits : (l : Link) → link_phase l ≡ Some phase.MsgIn → WaitsForAck (link_sent l)
-sent-waits Free e = absurd cc
-sent-waits (Greeted heard) e = absurd (let f : Some phase.MsgOut ≡ Some phase.MsgIn = e in cc)
-sent-waits (Commanded n taken) e = absurd (let f : Some phase.Command ≡ Some phase.MsgIn = e in cc)
-sent-waits (Working c) e = said c.shows c e
-sent-waits (Straying s n) e = strays-said s n e
+sent-waits : (l : ConnectionState) → link_phase l ≡ Some phase.MsgIn → WaitsForAck (link_sent l)
+sent-waits BusFree e = absurd cc
+sent-waits (Selected heard) e = absurd (let f : Some phase.MsgOut ≡ Some phase.MsgIn = e in cc)
+sent-waits (TakingCommand n taken) e = absurd (let f : Some phase.Command ≡ Some phase.MsgIn = e in cc)
+sent-waits (TaskConnected c) e = said c.shows c e
+sent-waits (RogueConnected s n) e = strays-said s n e
 
 is-in : (p : Option BusPhase) → is_message_in p ≡ true → p ≡ Some phase.MsgIn
 is-in (Some phase.MsgIn) e = refl
@@ -212,18 +212,18 @@ stays-is n b id d r h e i f = ap (λ (ds : List DeviceState). bus_of ds b.connec
 
 -- the live ticket of the connection's nexus is that of each nexus that the byte may name
 begins-live : (o : Option ℕ) (live : Nexus → Option ℕ) (whole : Bool) (us : List (Option LogicalUnit)) (n : Nexus) (taken : List ℕ) → o ≡ live n →
-    begins_if (λ m. o) whole (record { units = us; link = Commanded n taken }) ≡ begins_if live whole (record { units = us; link = Commanded n taken })
+    begins_if (λ m. o) whole (record { units = us; link = TakingCommand n taken }) ≡ begins_if live whole (record { units = us; link = TakingCommand n taken })
 begins-live o live false us n taken e = refl
-begins-live o live true us n taken e = ap (λ (x : Option ℕ). target_begun (record { units = us; link = Commanded n taken }) (where_placed (has_place (unit_at us n.lun) n.tag) x)) e
+begins-live o live true us n taken e = ap (λ (x : Option ℕ). target_begun (record { units = us; link = TakingCommand n taken }) (where_placed (has_place (unit_at us n.lun) n.tag) x)) e
 
-took_where-live : (o : Option ℕ) (live : Nexus → Option ℕ) (taken : Bool) (l : Link) (us : List (Option LogicalUnit)) (byte : ℕ) → o ≡ ticket_on live (nexus_of l) →
+took_where-live : (o : Option ℕ) (live : Nexus → Option ℕ) (taken : Bool) (l : ConnectionState) (us : List (Option LogicalUnit)) (byte : ℕ) → o ≡ ticket_on live (nexus_of l) →
     took_where (λ n. o) taken (record { units = us; link = l }) byte ≡ took_where live taken (record { units = us; link = l }) byte
 took_where-live o live false l us byte e = refl
-took_where-live o live true Free us byte e = refl
-took_where-live o live true (Greeted heard) us byte e = refl
-took_where-live o live true (Commanded n taken) us byte e = begins-live o live (is_whole (taken ++ byte ∷ [])) us n (taken ++ byte ∷ []) e
-took_where-live o live true (Working c) us byte e = refl
-took_where-live o live true (Straying s n) us byte e = refl
+took_where-live o live true BusFree us byte e = refl
+took_where-live o live true (Selected heard) us byte e = refl
+took_where-live o live true (TakingCommand n taken) us byte e = begins-live o live (is_whole (taken ++ byte ∷ [])) us n (taken ++ byte ∷ []) e
+took_where-live o live true (TaskConnected c) us byte e = refl
+took_where-live o live true (RogueConnected s n) us byte e = refl
 
 pub took-live : (o : Option ℕ) (live : Nexus → Option ℕ) (t : Target) (byte : ℕ) → o ≡ ticket_on live (nexus_of t.link) → target_took (λ n. o) t byte ≡ target_took live t byte
 unfolding target_took

@@ -1,7 +1,7 @@
 use Rattle.std.proofs.Common.{◌≡◌, ◌&&◌, ◌∙◌, ap, sym, subst, vec_len, slice_set, true}
 use Rattle.target_law.specs.Calls.{link_phase}
 use Rattle.target_law.specs.Devices.{DeviceState}
-use Rattle.target_law.specs.Target.{Link}
+use Rattle.target_law.specs.Target.{ConnectionState}
 use Rattle.bus_law.specs.Bus.{BusState, link_on, device_at, becomes}
 use Rattle.bus_law.specs.Attention.{is_message_out, device_messaged, messaged}
 use Rattle.target_bus.specs.Fields.{bus_of, IsHeldBus}
@@ -13,7 +13,7 @@ bus c = bus_of c.self.inside.devices.items c.self.inside.connected c.self.inside
 
 shows : (c : goal.After-self-4-1) → is_message_out (link_phase (link_on (bus c))) ≡ true
 shows c =
-    ap (λ (l : Link). is_message_out (link_phase l)) (link-is (bus c) c.in-Some.id c.in-Some.is)
+    ap (λ (l : ConnectionState). is_message_out (link_phase l)) (link-is (bus c) c.in-Some.id c.in-Some.is)
     ∙ ap (λ (d : DeviceState). is_message_out (link_phase d.target.link)) (sym (here-is (vec_len c.self.inside.devices) (bus c) c.in-Some.id c.index.result.now c.self.invariant c.in-Some.is c.index.ensures))
     ∙ sym (c.is_message_out.ensures ∙ ap is_message_out c.shown.ensures)
     ∙ c.if-not-is_message_out.false
