@@ -11,7 +11,7 @@ use Rattle.world_law.specs.declared.reply.Decided.{Decided}
 use Rattle.world_law.specs.declared.reply.Decided.TheVariants.{Accepted}
 use Rattle.world_law.specs.declared.reply.Reply.{Reply}
 use Rattle.world_law.specs.declared.reply.Reply.TheVariants.{Marked, Started}
-use Rattle.world_law.specs.World.{Setting, World, decided}
+use Rattle.world_law.specs.World.{BenchSetting, World, decided}
 use Rattle.world_law.specs.Runs.{Moment}
 
 pub record Change : Type 0 where
@@ -57,7 +57,7 @@ abbrev pub is_connected_to : (target : ℕ) → Option ℕ → Bool
 is_connected_to target (Some x) = x == target
 is_connected_to target None = false
 
-module _ (g : Setting) where
+module _ (g : BenchSetting) where
   -- an abort of the ticket answers Marked
   abbrev pub marks_by : ℕ → Change → Step → Bool
   marks_by t c (step.Act k) = has_kind (is_abort_of t c.before) (slice_get g.acts k) && is_marked c.moment.reply

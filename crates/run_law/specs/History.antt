@@ -3,7 +3,7 @@ use Rattle.std.specs.Prelude.{ℕ, ◌+◌, ◌-◌, ◌&&◌, ◌||◌, nat_lt,
 use Rattle.unit_law.specs.Log.{Tally, tally}
 use Rattle.unit_law.specs.Report.{TicketHistory}
 use Rattle.desk_law.specs.Desk.{ticket, unit, lives}
-use Rattle.world_law.specs.World.{Setting, World, log_of}
+use Rattle.world_law.specs.World.{BenchSetting, World, log_of}
 use Rattle.world_law.specs.Runs.{Moment}
 use Rattle.run_law.specs.Changes.{Change, changes, marks, resets_bus, resets_device}
 
@@ -25,7 +25,7 @@ is_live w t = lives (ticket w.desk t)
 abbrev pub is_under_way : World → ℕ → Bool
 is_under_way w t = is_live w t && nat_lt 0 (ticket w.desk t).tries
 
-module _ (g : Setting) where
+module _ (g : BenchSetting) where
   -- The history of ticket t of unit u, one change on: whether an abort marked it; the Clears of its unit's log while it is under way; whether
   -- the bus was reset between its End and its Free; its entries outside its life; and the Clears that neither a bus reset nor the
   -- connection of a device reset of the target caused.

@@ -9,7 +9,7 @@ use Rattle.phase_fix.specs.declared.moves.DataMove.{DataMove}
 use Rattle.phase_fix.specs.Moves.{move_at}
 use Rattle.phase_fix.specs.Remain.{count_of}
 use Rattle.desk_law.specs.Desk.{ticket, lives}
-use Rattle.world_law.specs.World.{Setting, World}
+use Rattle.world_law.specs.World.{BenchSetting, World}
 use Rattle.world_law.specs.Runs.{Moment}
 use Rattle.run_law.specs.Changes.{Change, changes, marks}
 
@@ -45,7 +45,7 @@ abbrev pub added_if : Bool → ℕ → List ℕ → List ℕ
 added_if true n ns = ns ++ n ∷ []
 added_if false n ns = ns
 
-module _ (g : Setting) where
+module _ (g : BenchSetting) where
   abbrev pub watched : ℕ → Watch → Change → Watch
   watched t x c = record {
     marked = x.marked || marks g t c;

@@ -1,16 +1,16 @@
 -- Laws of what a run says.
 use Rattle.std.specs.Prelude.{◌≡◌, ℕ, List, [], ◌∷◌, ◌++◌}
-use Rattle.world_law.specs.World.{Setting, World}
+use Rattle.world_law.specs.World.{BenchSetting, World}
 use Rattle.world_law.specs.Runs.{Moment, last}
 use Rattle.run_law.specs.History.{noted, history}
 use Rattle.run_law.specs.Late.{watched, watch}
 
 -- a run one moment longer is noted as the run, and then this moment in the world after it
 abbrev pub NotesOn : Type 0
-NotesOn = (g : Setting) (u t : ℕ) (w : World) (ms : List Moment) (m : Moment)
+NotesOn = (g : BenchSetting) (u t : ℕ) (w : World) (ms : List Moment) (m : Moment)
     → history g u t w (ms ++ m ∷ []) ≡ noted g u t (history g u t w ms) (record { before = last w ms; moment = m })
 
 -- and so it is watched
 abbrev pub WatchesOn : Type 0
-WatchesOn = (g : Setting) (t : ℕ) (w : World) (ms : List Moment) (m : Moment)
+WatchesOn = (g : BenchSetting) (t : ℕ) (w : World) (ms : List Moment) (m : Moment)
     → watch g t w (ms ++ m ∷ []) ≡ watched g t (watch g t w ms) (record { before = last w ms; moment = m })

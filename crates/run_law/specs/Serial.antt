@@ -8,7 +8,7 @@ use Rattle.desk_law.specs.declared.stage.Stage.{Stage}
 use Rattle.desk_law.specs.declared.stage.Stage.TheVariants as stage
 use Rattle.desk_law.specs.declared.ticket.Ticket.{Ticket}
 use Rattle.desk_law.specs.Desk.{aborter, reaper}
-use Rattle.world_law.specs.World.{Setting, World, lines_of}
+use Rattle.world_law.specs.World.{BenchSetting, World, lines_of}
 use Rattle.world_law.specs.Lines.{drained}
 use Rattle.world_law.specs.Stops.{sweep}
 use Rattle.world_law.specs.Enabling.{Enabled}
@@ -83,44 +83,44 @@ tries_of w caller word =
 -- ---- one try
 
 -- the first of the steps that is enabled, if one is
-abbrev pub IsFirst : Setting → World → (caller : ℕ) → List Step → Option Step → Type 0
+abbrev pub IsFirst : BenchSetting → World → (caller : ℕ) → List Step → Option Step → Type 0
 IsFirst g w caller [] first = first ≡ None
 IsFirst g w caller (s ∷ ss) first = (Enabled g w caller s × (first ≡ Some s)) ⊎ ((Enabled g w caller s → ⊥) × IsFirst g w caller ss first)
 
 -- a recorded step of a caller
-pub record IsMade (g : Setting) (w : World) (caller : ℕ) (s : Step) (m : Moment) : Type 0 where
+pub record IsMade (g : BenchSetting) (w : World) (caller : ℕ) (s : Step) (m : Moment) : Type 0 where
   pub entry : m.entry ≡ record { caller = caller; step = s }
   pub steps : Steps g w m
 
 -- that step is made; or its reply isn't recorded, or none is enabled, and the caller is passed over
-pub data Tries (g : Setting) (old : World) (caller : ℕ) (ss : List Step) : List Moment → World → Type 0 where
+pub data Tries (g : BenchSetting) (old : World) (caller : ℕ) (ss : List Step) : List Moment → World → Type 0 where
   made : (s : Step) → IsFirst g old caller ss (Some s) → (m : Moment) → IsMade g old caller s m → Tries g old caller ss (m ∷ []) m.after
   unrecorded : (s : Step) → IsFirst g old caller ss (Some s) → ((m : Moment) → IsMade g old caller s m → ⊥) → Tries g old caller ss [] old
   none : IsFirst g old caller ss None → Tries g old caller ss [] old
 
 -- the run is over once the world is drained or the list full; nothing is tried then
-abbrev pub is_over : Setting → (count : ℕ) → World → Bool
+abbrev pub is_over : BenchSetting → (count : ℕ) → World → Bool
 is_over g count w = if drained g w then true else count == g.step_limit
 
-abbrev pub TriesUnless : (over : Bool) → Setting → World → (caller : ℕ) → List Step → List Moment → World → Type 0
+abbrev pub TriesUnless : (over : Bool) → BenchSetting → World → (caller : ℕ) → List Step → List Moment → World → Type 0
 TriesUnless true g old caller ss ms new = (ms ≡ []) × (new ≡ old)
 TriesUnless false g old caller ss ms new = Tries g old caller ss ms new
 
 -- ---- rounds
 
 -- the moments and the world after callers in turn, each of which tries in the world that it finds
-abbrev pub Turns : Setting → (count word : ℕ) → World → List ℕ → List Moment → World → Type 0
+abbrev pub Turns : BenchSetting → (count word : ℕ) → World → List ℕ → List Moment → World → Type 0
 Turns g count word old [] ms new = (ms ≡ []) × (new ≡ old)
 Turns g count word old (caller ∷ callers) ms new =
     (first : List Moment) × (rest : List Moment) × (mid : World)
     × TriesUnless (is_over g count old) g old caller (tries_of old caller word) first mid
     × Turns g (count + length first) word mid callers rest new × (ms ≡ first ++ rest)
 
-abbrev pub Round : Setting → (count word : ℕ) → World → List Moment → World → Type 0
+abbrev pub Round : BenchSetting → (count word : ℕ) → World → List Moment → World → Type 0
 Round g count word old ms new = Turns g count word old (range_with_len 0 (length g.submitters + 3)) ms new
 
 -- so many rounds until the run is over, from the generator's state x on; each round takes the next word
-abbrev pub Rounds : ℕ → Setting → (count x : ℕ) → World → List Moment → World → Type 0
+abbrev pub Rounds : ℕ → BenchSetting → (count x : ℕ) → World → List Moment → World → Type 0
 Rounds zero g count x old ms new = (is_over g count old ≡ true) × (ms ≡ []) × (new ≡ old)
 Rounds (suc n) g count x old ms new =
     (is_over g count old ≡ false)
@@ -128,5 +128,5 @@ Rounds (suc n) g count x old ms new =
     × Round g count (eager (next_word x)) old first mid × Rounds n g (count + length first) (next_word x) mid rest new × (ms ≡ first ++ rest))
 
 -- the moments of the serial run of a seed, from an opening on
-abbrev pub IsSerial : Setting → (seed : ℕ) → (opening : World) → List Moment → Type 0
+abbrev pub IsSerial : BenchSetting → (seed : ℕ) → (opening : World) → List Moment → Type 0
 IsSerial g seed opening ms = (n : ℕ) × (new : World) × Rounds n g 0 seed opening ms new

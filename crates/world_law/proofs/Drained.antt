@@ -14,7 +14,7 @@ use Rattle.desk_law.specs.Rings.{done_ticket}
 use Rattle.world_law.specs.declared.reply.Decided.{Decided}
 use Rattle.world_law.specs.declared.reply.Stop.{Stop}
 use Rattle.world_law.specs.declared.reply.Stop.TheVariants.{Run, Mismatch, Clear, MustReset}
-use Rattle.world_law.specs.World.{Setting, World, front}
+use Rattle.world_law.specs.World.{BenchSetting, World, front}
 use Rattle.world_law.specs.Lines.{is_run, all_decided, drained}
 use Rattle.world_law.specs.Stops.{is_clear, is_done_by}
 use Rattle.world_law.specs.Enabling.{Enabled, MayQueue, IsEnded}
@@ -64,14 +64,14 @@ past-end : {A : Type 0} (xs : List A) → slice_get xs (length xs) ≡ None
 past-end [] = refl
 past-end (x ∷ xs) = past-end xs
 
-record Rested (g : Setting) (w : World) : Type 0 where
+record Rested (g : BenchSetting) (w : World) : Type 0 where
   pub lines : all_decided g.submitters w.lines ≡ true
   pub acts : length g.acts ≡ length w.acts
   pub freed : list_any lives w.desk.tickets ≡ false
   pub due : list_all (λ (n : ℕ). n == 0) w.desk.due ≡ true
   pub runs : is_run w.stop ≡ true
 
-rested : (g : Setting) (w : World) → drained g w ≡ true → Rested g w
+rested : (g : BenchSetting) (w : World) → drained g w ≡ true → Rested g w
 rested g w h =
     let a : (all_decided g.submitters w.lines ≡ true) × _ = both _ _ h in
     let b : (length g.acts == length w.acts ≡ true) × _ = both _ _ a.1 in
@@ -131,7 +131,7 @@ not-clear Mismatch b r m = absurd cc
 not-clear Clear b r m = absurd cc
 not-clear MustReset b r m = absurd cc
 
-rests_by : (g : Setting) (w : World) (caller : ℕ) (s : Step) → drained g w ≡ true → Rested g w → ((t : ℕ) → is_freed (ticket w.desk t).stage ≡ true) → Enabled g w caller s → ⊥
+rests_by : (g : BenchSetting) (w : World) (caller : ℕ) (s : Step) → drained g w ≡ true → Rested g w → ((t : ℕ) → is_freed (ticket w.desk t).stage ≡ true) → Enabled g w caller s → ⊥
 rests_by g w caller (step.Build l) d r f m =
     let left : length (slice_index_or g.submitters l.submitter []) ≤ length (slice_index_or w.lines l.submitter []) = no-line-left g.submitters w.lines l.submitter r.lines in
     absurd (omega (arith, left, m.there, m.next))
@@ -151,11 +151,11 @@ rests_by g w caller (step.Act k) d r f m =
 rests_by g w caller step.ResetBus d r f m = not-stopped _ MustReset r.runs refl m.1
 rests_by g w caller (step.Sense t) d r f m = not-stage _ stage.Check (f t) refl m.2
 
-pub rests : (g : Setting) (w : World) (caller : ℕ) (s : Step) → drained g w ≡ true → Enabled g w caller s → ⊥
+pub rests : (g : BenchSetting) (w : World) (caller : ℕ) (s : Step) → drained g w ≡ true → Enabled g w caller s → ⊥
 rests g w caller s d m =
     let r : Rested g w = rested g w d in
     rests_by g w caller s d r (λ t. all-freed w.desk.tickets t r.freed) m
 
 -- where the world is drained, every ticket is freed
-pub drained-freed : (g : Setting) (w : World) → drained g w ≡ true → (t : ℕ) → is_freed (ticket w.desk t).stage ≡ true
+pub drained-freed : (g : BenchSetting) (w : World) → drained g w ≡ true → (t : ℕ) → is_freed (ticket w.desk t).stage ≡ true
 drained-freed g w d t = all-freed w.desk.tickets t (rested g w d).freed

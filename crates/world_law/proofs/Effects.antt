@@ -33,7 +33,7 @@ use Rattle.world_law.specs.declared.reply.Reply.{Reply}
 use Rattle.world_law.specs.declared.reply.Reply.TheVariants as reply
 use Rattle.world_law.specs.declared.reply.Stop.{Stop}
 use Rattle.world_law.specs.declared.reply.Stop.TheVariants as stop
-use Rattle.world_law.specs.World.{Setting, World, commands_of, lines_of, command_at, decided, front}
+use Rattle.world_law.specs.World.{BenchSetting, World, commands_of, lines_of, command_at, decided, front}
 use Rattle.world_law.specs.Lines.{is_unqueued}
 use Rattle.world_law.specs.Stops.{is_clear, loses, job_done, to_sweep, is_done_by}
 use Rattle.world_law.specs.Enabling.{MayBuild, MayQueue, IsEnded, Enabled}
@@ -93,15 +93,15 @@ abbrev pub Reports : World → World → Type 0
 Reports old new = (new.reports ≡ old.reports) ⊎ OneReport old new
 
 -- the caller's next line is decided
-pub record OneLine (g : Setting) (caller : ℕ) (old new : World) : Type 0 where
+pub record OneLine (g : BenchSetting) (caller : ℕ) (old new : World) : Type 0 where
   pub decided : Decided
   pub there : length (lines_of old caller) < length (commands_of g caller)
   pub are : new.lines ≡ slice_set old.lines caller (lines_of old caller ++ decided ∷ [])
 
-abbrev pub LinesGo : Setting → ℕ → World → World → Type 0
+abbrev pub LinesGo : BenchSetting → ℕ → World → World → Type 0
 LinesGo g caller old new = (new.lines ≡ old.lines) ⊎ OneLine g caller old new
 
-pub record Effect (g : Setting) (caller : ℕ) (old : World) (answer : Reply) (new : World) : Type 0 where
+pub record Effect (g : BenchSetting) (caller : ℕ) (old : World) (answer : Reply) (new : World) : Type 0 where
   pub tickets : Changes new.reports caller old.desk.tickets new.desk.tickets
   pub counted : Counted old.desk.tickets (built answer) new.desk.tickets
   pub reports : Reports old new
@@ -127,12 +127,12 @@ more-length (x ∷ xs) k = omega (arith, more-length xs k)
 
 -- ---- a step that leads to a world has the effect of that world
 
-led : (g : Setting) (caller : ℕ) (old made : World) (answer a : Reply) (new : World) → a ≡ answer → new ≡ made → Effect g caller old answer made → Effect g caller old a new
+led : (g : BenchSetting) (caller : ℕ) (old made : World) (answer a : Reply) (new : World) → a ≡ answer → new ≡ made → Effect g caller old answer made → Effect g caller old a new
 led g caller old made answer a new e m x =
     subst (λ (y : Reply). Effect g caller old y new) (sym e) (subst (λ (y : World). Effect g caller old answer y) (sym m) x)
 
 -- the desk, the lines and the reports stay
-quiet : (g : Setting) (caller : ℕ) (old made : World) (answer : Reply) → built answer ≡ None → made.desk ≡ old.desk → made.lines ≡ old.lines → made.reports ≡ old.reports
+quiet : (g : BenchSetting) (caller : ℕ) (old made : World) (answer : Reply) → built answer ≡ None → made.desk ≡ old.desk → made.lines ≡ old.lines → made.reports ≡ old.reports
     → Effect g caller old answer made
 quiet g caller old made answer n d l r = record {
   tickets = inl (ap (λ (x : DeskState). x.tickets) d);
@@ -147,7 +147,7 @@ quiet g caller old made answer n d l r = record {
 abbrev DueStays : ℕ → DeskState → DeskState → Type 0
 DueStays caller old new = (s : ℕ) → s < old.submitters → s ≢ caller → due new s ≡ due old s
 
-goes : (g : Setting) (caller : ℕ) (old made : World) (answer : Reply) (t : ℕ) (k : Ticket) → built answer ≡ None → made.desk.tickets ≡ slice_set old.desk.tickets t k → GoesOn caller (ticket old.desk t) k
+goes : (g : BenchSetting) (caller : ℕ) (old made : World) (answer : Reply) (t : ℕ) (k : Ticket) → built answer ≡ None → made.desk.tickets ≡ slice_set old.desk.tickets t k → GoesOn caller (ticket old.desk t) k
     → (is_freed k.stage ≡ false) ⊎ IsTold made.reports t → DueStays caller old.desk made.desk → made.desk.submitters ≡ old.desk.submitters → made.lines ≡ old.lines → Reports old made
     → Effect g caller old answer made
 goes g caller old made answer t k n e go f d u l r = record {
@@ -160,7 +160,7 @@ goes g caller old made answer t k n e go f d u l r = record {
 }
 
 -- a signal becomes due, or one less
-signal : (g : Setting) (caller : ℕ) (old made : World) (answer : Reply) → built answer ≡ None → made.desk.tickets ≡ old.desk.tickets → DueStays caller old.desk made.desk
+signal : (g : BenchSetting) (caller : ℕ) (old made : World) (answer : Reply) → built answer ≡ None → made.desk.tickets ≡ old.desk.tickets → DueStays caller old.desk made.desk
     → made.desk.submitters ≡ old.desk.submitters → made.lines ≡ old.lines → made.reports ≡ old.reports → Effect g caller old answer made
 signal g caller old made answer n e d u l r = record {
   tickets = inl e;
@@ -258,7 +258,7 @@ taken-as false false false m k = (refl, refl, refl)
 
 -- ---- Build
 
-refused : (again : Bool) (g : Setting) (caller : ℕ) (old : World) (l : Line) (r : Refused) → MayBuild g old caller l → Effect g caller old (reply.Refused r) (refuses again old l r)
+refused : (again : Bool) (g : BenchSetting) (caller : ℕ) (old : World) (l : Line) (r : Refused) → MayBuild g old caller l → Effect g caller old (reply.Refused r) (refuses again old l r)
 refused true g caller old l r e = quiet g caller old old (reply.Refused r) refl refl refl refl
 refused false g caller old l r e = record {
   tickets = inl refl;
@@ -273,7 +273,7 @@ refused false g caller old l r e = record {
   submitters = refl;
 }
 
-builds : (g : Setting) (caller : ℕ) (c : Command) (old : World) (l : Line) (a : Reply) (new : World) → MayBuild g old caller l → BuildsBy old l c a new → Effect g caller old a new
+builds : (g : BenchSetting) (caller : ℕ) (c : Command) (old : World) (l : Line) (a : Reply) (new : World) → MayBuild g old caller l → BuildsBy old l c a new → Effect g caller old a new
 builds g caller c old l (reply.Built t) new e m = record {
   tickets = inr (inr (record {
     ticket = new_ticket old.desk l (plain c.request) m.builds.chunks;
@@ -295,7 +295,7 @@ builds g caller c old l (reply.Refused r) new e m =
     led g caller old (refuses (is_tried_again c.when_full r) old l r) (reply.Refused r) (reply.Refused r) new refl m.1 (refused (is_tried_again c.when_full r) g caller old l r e)
 builds g caller c old l _ new e m = absurd m
 
-builds-of : (g : Setting) (caller : ℕ) (o : Option Command) (old : World) (l : Line) (a : Reply) (new : World) → MayBuild g old caller l → BuildsOf o old l a new → Effect g caller old a new
+builds-of : (g : BenchSetting) (caller : ℕ) (o : Option Command) (old : World) (l : Line) (a : Reply) (new : World) → MayBuild g old caller l → BuildsOf o old l a new → Effect g caller old a new
 builds-of g caller None old l a new e m = absurd m
 builds-of g caller (Some c) old l a new e m = builds g caller c old l a new e m
 
@@ -331,13 +331,13 @@ not-built end.Idle = refl
 not-built end.Ran = refl
 not-built (end.Stopped c) = refl
 
-fixes : (g : Setting) (caller : ℕ) (old : World) (a : Reply) (new : World) → a ≡ reply.Made → Fixes old new → Effect g caller old a new
+fixes : (g : BenchSetting) (caller : ℕ) (old : World) (a : Reply) (new : World) → a ≡ reply.Made → Fixes old new → Effect g caller old a new
 fixes g caller old a new e h = elim h [
   | inl x ↦ led g caller old (fixed old x.move) reply.Made a new e x.world (quiet g caller old (fixed old x.move) reply.Made refl refl refl refl)
   | inr x ↦ led g caller old (not_fixed old) reply.Made a new e x.1 (quiet g caller old (not_fixed old) reply.Made refl refl refl refl)
 ]
 
-takes-by : (g : Setting) (caller : ℕ) (o : Option ℕ) (old : World) (a : Reply) (new : World) → is_done_by old o ≡ true → TakesOf o old a new → Effect g caller old a new
+takes-by : (g : BenchSetting) (caller : ℕ) (o : Option ℕ) (old : World) (a : Reply) (new : World) → is_done_by old o ≡ true → TakesOf o old a new → Effect g caller old a new
 takes-by g caller None old a new d m = absurd m
 takes-by g caller (Some t) old a new d m =
     let k : Ticket = ticket old.desk t in
@@ -347,32 +347,32 @@ takes-by g caller (Some t) old a new d m =
     led g caller old _ (reply.Taken t) a new m.0 m.1
     (goes g caller old _ (reply.Taken t) t (taken old.desk old.memory k) refl refl (record { live = w.0; line = x.0; whose = inr (w.1, x.1) }) (inl x.2) (λ s below other. refl) refl refl (inl refl))
 
-marked : (g : Setting) (caller : ℕ) (late : Bool) (old : World) (t : ℕ) → Effect g caller old (marks late old t).answer (marks late old t).world
+marked : (g : BenchSetting) (caller : ℕ) (late : Bool) (old : World) (t : ℕ) → Effect g caller old (marks late old t).answer (marks late old t).world
 marked g caller true old t = quiet g caller old _ reply.TooLate refl refl refl refl
 marked g caller false old t = quiet g caller old _ reply.Marked refl refl refl refl
 
-aborted : (g : Setting) (caller : ℕ) (d : Decided) (old : World) → Effect g caller old (aborts old d).answer (aborts old d).world
+aborted : (g : BenchSetting) (caller : ℕ) (d : Decided) (old : World) → Effect g caller old (aborts old d).answer (aborts old d).world
 aborted g caller line.Open old = quiet g caller old _ reply.NeverAccepted refl refl refl refl
 aborted g caller (line.Accepted t) old = marked g caller (is_late (ticket old.desk t).stage) old t
 aborted g caller (line.Refused r) old = quiet g caller old _ reply.NeverAccepted refl refl refl refl
 
-fronted : (g : Setting) (caller : ℕ) (idle : Bool) (old : World) (target : ℕ) → Effect g caller old (device_resets idle old target).answer (device_resets idle old target).world
+fronted : (g : BenchSetting) (caller : ℕ) (idle : Bool) (old : World) (target : ℕ) → Effect g caller old (device_resets idle old target).answer (device_resets idle old target).world
 fronted g caller true old target =
     signal g caller old _ reply.Started refl refl (λ s below other. behind caller (aborter old.desk) _ old.desk (omega arith) s below other) refl refl refl
 fronted g caller false old target = quiet g caller old old (reply.BusyFront (front old)) refl refl refl refl
 
-bus-acts : (g : Setting) (caller : ℕ) (s : Stop) (old : World) → Effect g caller old (bus_resets s old).answer (bus_resets s old).world
+bus-acts : (g : BenchSetting) (caller : ℕ) (s : Stop) (old : World) → Effect g caller old (bus_resets s old).answer (bus_resets s old).world
 bus-acts g caller stop.Run old = quiet g caller old _ reply.Started refl refl refl refl
 bus-acts g caller stop.Mismatch old = quiet g caller old old (reply.BusyStop (cause_at old)) refl refl refl refl
 bus-acts g caller stop.Clear old = quiet g caller old old (reply.BusyStop (cause_at old)) refl refl refl refl
 bus-acts g caller stop.MustReset old = quiet g caller old _ reply.Started refl refl refl refl
 
-acts : (g : Setting) (caller : ℕ) (k : ActKind) (old : World) → Effect g caller old (acts_by old k).answer (acts_by old k).world
+acts : (g : BenchSetting) (caller : ℕ) (k : ActKind) (old : World) → Effect g caller old (acts_by old k).answer (acts_by old k).world
 acts g caller (Abort l) old = aborted g caller (decided old l) old
 acts g caller (Device target) old = fronted g caller _ old target
 acts g caller Bus old = bus-acts g caller old.stop old
 
-acts-of : (g : Setting) (caller : ℕ) (o : Option Act) (old : World) (a : Reply) (new : World) → ActsOf o old a new → Effect g caller old a new
+acts-of : (g : BenchSetting) (caller : ℕ) (o : Option Act) (old : World) (a : Reply) (new : World) → ActsOf o old a new → Effect g caller old a new
 acts-of g caller None old a new m = absurd m
 acts-of g caller (Some x) old a new m = led g caller old _ _ a new m.0 m.1 (acts g caller x.kind old)
 
@@ -399,7 +399,7 @@ set-freed [] t k l f = absurd (omega (arith, l))
 set-freed (x ∷ xs) zero k l f = f
 set-freed (x ∷ xs) (suc t) k l f = set-freed xs t k (omega (arith, l)) f
 
-pub effect : (g : Setting) (old : World) (caller : ℕ) (s : Step) (a : Reply) (new : World) → Enabled g old caller s → Does g old caller s a new → Effect g caller old a new
+pub effect : (g : BenchSetting) (old : World) (caller : ℕ) (s : Step) (a : Reply) (new : World) → Enabled g old caller s → Does g old caller s a new → Effect g caller old a new
 effect g old caller (step.Build l) a new e m = builds-of g caller (command_at g l) old l a new e m
 effect g old caller (step.Link t) a new e m =
     led g caller old _ reply.Made a new m.0 m.1

@@ -8,7 +8,7 @@ use Rattle.rig_types.specs.declared.step.Step.{Step}
 use Rattle.rig_types.specs.declared.step.Step.TheVariants as step
 use Rattle.world_law.specs.declared.reply.Decided.{Decided}
 use Rattle.world_law.specs.declared.reply.Reply.{Reply}
-use Rattle.world_law.specs.World.{Setting, World, commands_of, lines_of, command_at}
+use Rattle.world_law.specs.World.{BenchSetting, World, commands_of, lines_of, command_at}
 use Rattle.world_law.specs.Opening.{opened}
 use Rattle.world_law.specs.Lines.{next_command, waits_of, blocks, all_decided, drained}
 use Rattle.world_law.specs.Enabling.{MayBuild, Enabled}
@@ -41,7 +41,7 @@ none-replicated (suc n) (suc s) = none-replicated n s
 
 -- ---- the lines that are decided stay within the commands
 
-abbrev Within : Setting → World → Type 0
+abbrev Within : BenchSetting → World → Type 0
 Within g w = (s : ℕ) → length (lines_of w s) ≤ length (commands_of g s)
 
 set-at : (lss : List (List Decided)) (k s : ℕ) (ls : List Decided) → (slice_index_or (slice_set lss k ls) s [] ≡ slice_index_or lss s []) ⊎ ((s ≡ k) × (slice_index_or (slice_set lss k ls) s [] ≡ ls))
@@ -54,7 +54,7 @@ set-at (x ∷ xs) (suc k) (suc s) ls = elim (set-at xs k s ls) [
   | inr p ↦ inr (ap (λ (n : ℕ). suc n) p.0, p.1)
 ]
 
-stay-within : (g : Setting) (caller : ℕ) (old new : World) → LinesGo g caller old new → Within g old → Within g new
+stay-within : (g : BenchSetting) (caller : ℕ) (old new : World) → LinesGo g caller old new → Within g old → Within g new
 stay-within g caller old new (inl e) w = λ s. subst (λ (lss : List (List Decided)). length (slice_index_or lss s []) ≤ length (commands_of g s)) (sym e) (w s)
 stay-within g caller old new (inr x) w = λ s.
     let next : List Decided = lines_of old caller ++ x.decided ∷ [] in
@@ -68,7 +68,7 @@ stay-within g caller old new (inr x) w = λ s.
 
 -- ---- the longer work
 
-module _ (g : Setting) (s : ℕ) (c : Command) (there : s < length g.submitters) where
+module _ (g : BenchSetting) (s : ℕ) (c : Command) (there : s < length g.submitters) where
   here : commands_of (longer g s c) s ≡ commands_of g s ++ c ∷ []
   here = get_or-set_same g.submitters s (commands_of g s ++ c ∷ []) [] there
 
@@ -177,10 +177,10 @@ module _ (g : Setting) (s : ℕ) (c : Command) (there : s < length g.submitters)
 
 -- ---- from the opening
 
-within-at-opening : (g : Setting) → Within g (opened g)
+within-at-opening : (g : BenchSetting) → Within g (opened g)
 within-at-opening g s = subst (λ (ls : List Decided). length ls ≤ length (commands_of g s)) (sym (none-replicated (length g.submitters) s)) (omega arith)
 
-opens-alike : (g : Setting) (s : ℕ) (c : Command) → opened (longer g s c) ≡ opened g
+opens-alike : (g : BenchSetting) (s : ℕ) (c : Command) → opened (longer g s c) ≡ opened g
 opens-alike g s c =
     let with_count : ℕ → World = λ n. record (opened g) {
       desk = record (opened g).desk { submitters = n; due = replicate (n + 3) 0 };
@@ -188,5 +188,5 @@ opens-alike g s c =
     } in
     ap with_count (length-set g.submitters s (commands_of g s ++ c ∷ []))
 
-pub extends : (g : Setting) (s : ℕ) (c : Command) (ms : List Moment) → s < length g.submitters → IsRun g (opened g) ms → IsRun (longer g s c) (opened (longer g s c)) ms
+pub extends : (g : BenchSetting) (s : ℕ) (c : Command) (ms : List Moment) → s < length g.submitters → IsRun g (opened g) ms → IsRun (longer g s c) (opened (longer g s c)) ms
 extends g s c ms there r = subst (λ (w : World). IsRun (longer g s c) w ms) (sym (opens-alike g s c)) (runs g s c there (opened g) ms (within-at-opening g) r)

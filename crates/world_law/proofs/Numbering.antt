@@ -6,7 +6,7 @@ use Rattle.std.proofs.lemmas.List.Quantifiers.{all_pairs_push}
 use Rattle.rig_types.specs.declared.report.Report.{Report}
 use Rattle.desk_law.specs.Desk.{ticket, is_freed}
 use Rattle.world_law.specs.declared.reply.Reply.{Reply}
-use Rattle.world_law.specs.World.{Setting, World}
+use Rattle.world_law.specs.World.{BenchSetting, World}
 use Rattle.world_law.specs.Opening.{opened}
 use Rattle.world_law.specs.Runs.{Moment, IsRun, last, built, accepted}
 use Rattle.world_law.specs.Laws.{is_report_of, NumbersTickets}
@@ -28,7 +28,7 @@ record Reported (w : World) : Type 0 where
   pub once : AllPairs AreOfTwo w.reports
   pub all : (t : ℕ) → t < length w.desk.tickets → is_freed (ticket w.desk t).stage ≡ true → IsTold w.reports t
 
-still-freed : (g : Setting) (caller : ℕ) (old : World) (a : Reply) (new : World) → Effect g caller old a new → (r : Report) → IsOfFreed old r → IsOfFreed new r
+still-freed : (g : BenchSetting) (caller : ℕ) (old : World) (a : Reply) (new : World) → Effect g caller old a new → (r : Report) → IsOfFreed old r → IsOfFreed new r
 still-freed g caller old a new x r h = (
   omega (arith, h.0, grown old.desk.tickets new.desk.tickets (built a) x.counted),
   freed_stays caller old.desk.tickets new.desk.tickets new.reports x.tickets r.ticket h.0 h.1,
@@ -50,13 +50,13 @@ told-on (r ∷ rs) qs t h = either-told (r.ticket == t) (list_any (is_report_of 
     either-told true b c h k = refl
     either-told false b c h k = k h
 
-told-still : (g : Setting) (caller : ℕ) (old : World) (a : Reply) (new : World) → Effect g caller old a new → (t : ℕ) → IsTold old.reports t → IsTold new.reports t
+told-still : (g : BenchSetting) (caller : ℕ) (old : World) (a : Reply) (new : World) → Effect g caller old a new → (t : ℕ) → IsTold old.reports t → IsTold new.reports t
 told-still g caller old a new x t h = elim x.reports [
   | inl e ↦ subst (λ (rs : List Report). IsTold rs t) (sym e) h
   | inr r ↦ subst (λ (rs : List Report). IsTold rs t) (sym r.are) (told-on old.reports (r.report ∷ []) t h)
 ]
 
-all-told : (g : Setting) (caller : ℕ) (old : World) (a : Reply) (new : World) → Effect g caller old a new → Reported old → (t : ℕ) → t < length new.desk.tickets → is_freed (ticket new.desk t).stage ≡ true
+all-told : (g : BenchSetting) (caller : ℕ) (old : World) (a : Reply) (new : World) → Effect g caller old a new → Reported old → (t : ℕ) → t < length new.desk.tickets → is_freed (ticket new.desk t).stage ≡ true
     → IsTold new.reports t
 all-told g caller old a new x h t l f = elim (was_freed caller old.desk.tickets new.desk.tickets new.reports x.tickets t l f) [
   | inl was ↦ told-still g caller old a new x t (h.all t was.0 was.1)
@@ -67,7 +67,7 @@ two-stages : (w : World) (a b : Report) → is_freed (ticket w.desk a.ticket).st
 two-stages w a b f l e =
     let c : true ≡ false = sym f ∙ ap (λ (t : ℕ). is_freed (ticket w.desk t).stage) e ∙ l in absurd cc
 
-reported-more : (g : Setting) (caller : ℕ) (old : World) (a : Reply) (new : World) → Effect g caller old a new → Reported old → OneReport old new → Reported new
+reported-more : (g : BenchSetting) (caller : ℕ) (old : World) (a : Reply) (new : World) → Effect g caller old a new → Reported old → OneReport old new → Reported new
 reported-more g caller old a new x h r = record {
   each = subst (λ (rs : List Report). All (IsOfFreed new) rs) (sym r.are)
       (All-append (IsOfFreed new) old.reports (r.report ∷ []) (λ k d l. still-freed g caller old a new x (slice_index_or old.reports k d) (h.each k d l))
@@ -78,14 +78,14 @@ reported-more g caller old a new x h r = record {
   all = all-told g caller old a new x h;
 }
 
-reported-same : (g : Setting) (caller : ℕ) (old : World) (a : Reply) (new : World) → Effect g caller old a new → Reported old → new.reports ≡ old.reports → Reported new
+reported-same : (g : BenchSetting) (caller : ℕ) (old : World) (a : Reply) (new : World) → Effect g caller old a new → Reported old → new.reports ≡ old.reports → Reported new
 reported-same g caller old a new x h e = record {
   each = subst (λ (rs : List Report). All (IsOfFreed new) rs) (sym e) (λ k d l. still-freed g caller old a new x (slice_index_or old.reports k d) (h.each k d l));
   once = subst (λ (rs : List Report). AllPairs AreOfTwo rs) (sym e) h.once;
   all = all-told g caller old a new x h;
 }
 
-reported : (g : Setting) (caller : ℕ) (old : World) (a : Reply) (new : World) → Effect g caller old a new → Reported old → Reported new
+reported : (g : BenchSetting) (caller : ℕ) (old : World) (a : Reply) (new : World) → Effect g caller old a new → Reported old → Reported new
 reported g caller old a new x h = elim x.reports [
   | inl e ↦ reported-same g caller old a new x h e
   | inr r ↦ reported-more g caller old a new x h r
@@ -123,13 +123,13 @@ one-more w m ms c x = elim c [
   }
 ]
 
-numbers : (g : Setting) (w : World) (ms : List Moment) → Reported w → IsRun g w ms → Numbered w ms
+numbers : (g : BenchSetting) (w : World) (ms : List Moment) → Reported w → IsRun g w ms → Numbered w ms
 numbers g w [] h r = record { n = 0; are = refl; many = omega arith; reports = h }
 numbers g w (m ∷ ms) h r =
     let x : Effect g m.entry.caller w m.reply m.after = effect g w m.entry.caller m.entry.step m.reply m.after r.0.enabled r.0.does in
     one-more w m ms x.counted (numbers g m.after ms (reported g m.entry.caller w m.reply m.after x h) r.1)
 
-none-yet : (g : Setting) → Reported (opened g)
+none-yet : (g : BenchSetting) → Reported (opened g)
 none-yet g = record { each = λ k d l. absurd (omega (arith, l)); once = λ i j d l m. absurd (omega (arith, m)); all = λ t l f. absurd (omega (arith, l)) }
 
 zero-plus : (n : ℕ) → 0 + n ≡ n
@@ -139,7 +139,7 @@ was-freed : (b : Bool) → not b ≡ false → b ≡ true
 was-freed true h = refl
 was-freed false h = absurd cc
 
-pub numbers_tickets : (g : Setting) (ms : List Moment) → IsRun g (opened g) ms → NumbersTickets (opened g) ms
+pub numbers_tickets : (g : BenchSetting) (ms : List Moment) → IsRun g (opened g) ms → NumbersTickets (opened g) ms
 numbers_tickets g ms r =
     let x : Numbered (opened g) ms = numbers g (opened g) ms (none-yet g) r in
     record {
@@ -149,7 +149,7 @@ numbers_tickets g ms r =
       all = λ t l f. x.reports.all t l (was-freed (is_freed (ticket (last (opened g) ms).desk t).stage) f);
     }
 
-pub reports_all : (g : Setting) (ms : List Moment) (t : ℕ) → IsRun g (opened g) ms → drained g (last (opened g) ms) ≡ true → t < length (last (opened g) ms).desk.tickets → IsTold (last (opened g) ms).reports t
+pub reports_all : (g : BenchSetting) (ms : List Moment) (t : ℕ) → IsRun g (opened g) ms → drained g (last (opened g) ms) ≡ true → t < length (last (opened g) ms).desk.tickets → IsTold (last (opened g) ms).reports t
 reports_all g ms t r d l =
     let x : NumbersTickets (opened g) ms = numbers_tickets g ms r in
     x.all t l (ap not (drained-freed g (last (opened g) ms) d t))

@@ -16,7 +16,7 @@ use Rattle.desk_law.proofs.Builds.{refuses_for_one, refuses_or_builds, builds_on
 use Rattle.world_law.specs.declared.reply.Decided.TheVariants as line
 use Rattle.world_law.specs.declared.reply.Reply.{Reply}
 use Rattle.world_law.specs.declared.reply.Reply.TheVariants as reply
-use Rattle.world_law.specs.World.{Setting, World, command_at}
+use Rattle.world_law.specs.World.{BenchSetting, World, command_at}
 use Rattle.world_law.specs.Rooms.{with_room_at}
 use Rattle.world_law.specs.Repairs.{fixed, Fixes}
 use Rattle.world_law.specs.Builds.{decides, refuses, is_tried_again, Accepts, BuildsBy, BuildsOf}
@@ -93,7 +93,7 @@ abbrev pub IsPatch : Step → Type 0
 IsPatch (step.Chip word) = ⊥
 IsPatch _ = Unit {0}
 
-pub once : (g : Setting) (old : World) (caller : ℕ) (s : Step) (a b : Reply) (new other : World) → IsPatch s → Does g old caller s a new → Does g old caller s b other → (a ≡ b) × (new ≡ other)
+pub once : (g : BenchSetting) (old : World) (caller : ℕ) (s : Step) (a b : Reply) (new other : World) → IsPatch s → Does g old caller s a new → Does g old caller s b other → (a ≡ b) × (new ≡ other)
 once g old caller (step.Build l) a b new other p m n = builds-of (command_at g l) old l a b new other m n
 once g old caller (step.Link t) a b new other p m n = (m.0 ∙ sym n.0, m.1 ∙ sym n.1)
 once g old caller (step.Queue t) a b new other p m n = (m.0 ∙ sym n.0, m.1 ∙ sym n.1)

@@ -14,12 +14,12 @@ use Rattle.desk_law.specs.Desk.{aborter, reaper, chip, ticket, due}
 use Rattle.world_law.specs.declared.reply.Decided.{Decided}
 use Rattle.world_law.specs.declared.reply.Decided.TheVariants as line
 use Rattle.world_law.specs.declared.reply.Stop.TheVariants.{Run, Mismatch, Clear, MustReset}
-use Rattle.world_law.specs.World.{Setting, World, commands_of, lines_of, decided, front}
+use Rattle.world_law.specs.World.{BenchSetting, World, commands_of, lines_of, decided, front}
 use Rattle.world_law.specs.Lines.{settled, blocking, drained}
 use Rattle.world_law.specs.Stops.{to_sweep, sweep, is_done}
 
 -- the submitter's next line, once its signals are made and its earlier tickets don't block
-pub record MayBuild (g : Setting) (w : World) (caller : ℕ) (l : Line) : Type 0 where
+pub record MayBuild (g : BenchSetting) (w : World) (caller : ℕ) (l : Line) : Type 0 where
   pub own : caller ≡ l.submitter
   pub next : l.number ≡ length (lines_of w l.submitter)
   pub there : l.number < length (commands_of g l.submitter)
@@ -45,7 +45,7 @@ abbrev pub aborts_open : World → ActKind → Bool
 aborts_open w (Abort l) = is_open (decided w l)
 aborts_open w _ = false
 
-pub record MayAct (g : Setting) (w : World) (caller k : ℕ) : Type 0 where
+pub record MayAct (g : BenchSetting) (w : World) (caller k : ℕ) : Type 0 where
   pub by : caller ≡ aborter w.desk
   pub next : k ≡ length w.acts
   pub act : Act
@@ -54,7 +54,7 @@ pub record MayAct (g : Setting) (w : World) (caller k : ℕ) : Type 0 where
   pub none_due : due w.desk caller ≡ 0
   pub decided : aborts_open w act.kind ≡ false
 
-abbrev pub Enabled : Setting → World → (caller : ℕ) → Step → Type 0
+abbrev pub Enabled : BenchSetting → World → (caller : ℕ) → Step → Type 0
 Enabled g w caller (step.Build l) = MayBuild g w caller l
 Enabled g w caller (step.Link t) = ((ticket w.desk t).stage ≡ stage.Built) × (caller ≡ (ticket w.desk t).line.submitter)
 Enabled g w caller (step.Queue t) = MayQueue w caller (ticket w.desk t) (ticket w.desk t).stage

@@ -9,7 +9,7 @@ use Rattle.opening_memory.specs.Opening.{IsOpening}
 use Rattle.desk_law.specs.declared.ticket.Ticket.{Ticket}
 use Rattle.desk_law.specs.Desk.{ticket, lives, due}
 use Rattle.world_law.specs.declared.reply.Reply.{Reply}
-use Rattle.world_law.specs.World.{Setting, World, commands_of, lines_of}
+use Rattle.world_law.specs.World.{BenchSetting, World, commands_of, lines_of}
 use Rattle.world_law.specs.Opening.{memory_opened, opened}
 use Rattle.world_law.specs.Lines.{is_unqueued, drained}
 use Rattle.world_law.specs.Enabling.{Enabled}
@@ -19,28 +19,28 @@ use Rattle.world_law.specs.Traces.{trace}
 
 -- a run one moment longer is the run, and then this moment in the world after it
 abbrev pub GoesOn : Type 0
-GoesOn = (g : Setting) (w : World) (ms : List Moment) (m : Moment) → IsRun g w ms → Steps g (last w ms) m → IsRun g w (ms ++ m ∷ [])
+GoesOn = (g : BenchSetting) (w : World) (ms : List Moment) (m : Moment) → IsRun g w ms → Steps g (last w ms) m → IsRun g w (ms ++ m ∷ [])
 
 -- host memory at the opening holds the words of its table, and 0 elsewhere
 abbrev pub OpensMemory : Type 0
-OpensMemory = (g : Setting) → length g.units ≤ 16 → IsOpening (memory_opened g.version g.units) g.version g.units
+OpensMemory = (g : BenchSetting) → length g.units ≤ 16 → IsOpening (memory_opened g.version g.units) g.version g.units
 
 -- in a drained world no step is enabled
 abbrev pub RestsDrained : Type 0
-RestsDrained = (g : Setting) (w : World) (caller : ℕ) (s : Step) → drained g w ≡ true → Enabled g w caller s → ⊥
+RestsDrained = (g : BenchSetting) (w : World) (caller : ℕ) (s : Step) → drained g w ≡ true → Enabled g w caller s → ⊥
 
 -- a step has one answer, and leaves one world
 abbrev pub DoesOnce : Type 0
-DoesOnce = (g : Setting) (old : World) (caller : ℕ) (s : Step) (a b : Reply) (new other : World) → Does g old caller s a new
+DoesOnce = (g : BenchSetting) (old : World) (caller : ℕ) (s : Step) (a b : Reply) (new other : World) → Does g old caller s a new
     → Does g old caller s b other → (a ≡ b) × (new ≡ other)
 
 -- a list of entries has one run from a world on
 abbrev pub RunsOnce : Type 0
-RunsOnce = (g : Setting) (w : World) (ms ns : List Moment) → entries ms ≡ entries ns → IsRun g w ms → IsRun g w ns → ms ≡ ns
+RunsOnce = (g : BenchSetting) (w : World) (ms ns : List Moment) → entries ms ≡ entries ns → IsRun g w ms → IsRun g w ns → ms ≡ ns
 
 -- a trace has one lawful list
 abbrev pub TracesOne : Type 0
-TracesOne = (g : Setting) (es fs : List Entry) → IsLawful g es → IsLawful g fs → trace es ≡ trace fs → es ≡ fs
+TracesOne = (g : BenchSetting) (es fs : List Entry) → IsLawful g es → IsLawful g fs → trace es ≡ trace fs → es ≡ fs
 
 -- the tickets of a run are numbered as they were accepted, every report is of one of them, two reports are of two, and every ticket that is
 -- freed has one
@@ -54,11 +54,11 @@ pub record NumbersTickets (w : World) (ms : List Moment) : Type 0 where
   pub all : (t : ℕ) → t < length (last w ms).desk.tickets → lives (ticket (last w ms).desk t) ≡ false → list_any (is_report_of t) (last w ms).reports ≡ true
 
 abbrev pub ReportsAccepted : Type 0
-ReportsAccepted = (g : Setting) (ms : List Moment) → IsRun g (opened g) ms → NumbersTickets (opened g) ms
+ReportsAccepted = (g : BenchSetting) (ms : List Moment) → IsRun g (opened g) ms → NumbersTickets (opened g) ms
 
 -- so where the world is drained, every accepted ticket has a report
 abbrev pub ReportsAll : Type 0
-ReportsAll = (g : Setting) (ms : List Moment) (t : ℕ) → IsRun g (opened g) ms → drained g (last (opened g) ms) ≡ true
+ReportsAll = (g : BenchSetting) (ms : List Moment) (t : ℕ) → IsRun g (opened g) ms → drained g (last (opened g) ms) ≡ true
     → t < length (last (opened g) ms).desk.tickets → list_any (is_report_of t) (last (opened g) ms).reports ≡ true
 
 -- a step of another caller leaves what a submitter has still to do: its next line, its due signals, and its tickets that are Built or Linked
@@ -72,14 +72,14 @@ pub record LeavesSubmitter (s : ℕ) (old new : World) : Type 0 where
   pub no_more : (t : ℕ) → IsHeldBy s (ticket new.desk t) → ticket new.desk t ≡ ticket old.desk t
 
 abbrev pub OthersLeave : Type 0
-OthersLeave = (g : Setting) (old : World) (m : Moment) (s : ℕ) → s < old.desk.submitters → s ≢ m.entry.caller → Steps g old m
+OthersLeave = (g : BenchSetting) (old : World) (m : Moment) (s : ℕ) → s < old.desk.submitters → s ≢ m.entry.caller → Steps g old m
     → LeavesSubmitter s old m.after
 
 -- the setting in which a submitter has one more line, at its end
-abbrev pub longer : Setting → (s : ℕ) → Command → Setting
+abbrev pub longer : BenchSetting → (s : ℕ) → Command → BenchSetting
 longer g s c = record g { submitters = slice_set g.submitters s (commands_of g s ++ c ∷ []) }
 
 -- a run stays a run there
 abbrev pub Extends : Type 0
-Extends = (g : Setting) (s : ℕ) (c : Command) (ms : List Moment) → s < length g.submitters → IsRun g (opened g) ms
+Extends = (g : BenchSetting) (s : ℕ) (c : Command) (ms : List Moment) → s < length g.submitters → IsRun g (opened g) ms
     → IsRun (longer g s c) (opened (longer g s c)) ms

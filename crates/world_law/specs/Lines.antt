@@ -11,7 +11,7 @@ use Rattle.world_law.specs.declared.reply.Decided.{Decided}
 use Rattle.world_law.specs.declared.reply.Decided.TheVariants as line
 use Rattle.world_law.specs.declared.reply.Stop.{Stop}
 use Rattle.world_law.specs.declared.reply.Stop.TheVariants.{Run}
-use Rattle.world_law.specs.World.{Setting, World, commands_of, lines_of, front}
+use Rattle.world_law.specs.World.{BenchSetting, World, commands_of, lines_of, front}
 
 -- a line is settled where it was refused or its ticket is freed
 abbrev pub is_settled : DeskState → Decided → Bool
@@ -31,7 +31,7 @@ is_unqueued _ = false
 abbrev pub blocks : (submitter : ℕ) → (waits : Bool) → Ticket → Bool
 blocks s waits k = k.line.submitter == s && (is_unqueued k.stage || (waits && lives k))
 
-abbrev pub next_command : Setting → World → ℕ → Option Command
+abbrev pub next_command : BenchSetting → World → ℕ → Option Command
 next_command g w s = slice_get (commands_of g s) (length (lines_of w s))
 
 abbrev pub waits_of : Option Command → Bool
@@ -39,7 +39,7 @@ waits_of None = false
 waits_of (Some c) = c.wait
 
 -- the least ticket that blocks
-abbrev pub blocking : Setting → World → ℕ → Option ℕ
+abbrev pub blocking : BenchSetting → World → ℕ → Option ℕ
 blocking g w s = position (blocks s (waits_of (next_command g w s))) w.desk.tickets
 
 -- ---- the end
@@ -57,7 +57,7 @@ abbrev pub none_due : List ℕ → Bool
 none_due due = list_all (λ (n : ℕ). n == 0) due
 
 -- every line and act is decided, every ticket is freed, no signal is due, FRONT is idle and no stop waits
-abbrev pub drained : Setting → World → Bool
+abbrev pub drained : BenchSetting → World → Bool
 drained g w =
     all_decided g.submitters w.lines && (length g.acts == length w.acts && (not (list_any lives w.desk.tickets)
     && (none_due w.desk.due && (front w == FRONT_IDLE && is_run w.stop))))

@@ -9,12 +9,12 @@ use Rattle.opening_memory.specs.Opening.{opening_table}
 use Rattle.opening_memory.specs.Tables.{written}
 use Rattle.desk_law.specs.Desk.{desk_opened}
 use Rattle.world_law.specs.declared.reply.Stop.TheVariants.{Run}
-use Rattle.world_law.specs.World.{Setting, World}
+use Rattle.world_law.specs.World.{BenchSetting, World}
 
 unfoldable pub memory_opened : (version : ℕ) → List RigUnit → List ℕ
 memory_opened version units = written (replicate MEMORY_BYTES 0) (opening_table version units)
 
-abbrev pub opened : Setting → World
+abbrev pub opened : BenchSetting → World
 opened g = record {
   memory = memory_opened g.version g.units;
   regs = cleared;

@@ -6,7 +6,7 @@ use Rattle.rig_types.specs.declared.step.Entry.{Entry}
 use Rattle.rig_types.specs.declared.commands.Command.{Command}
 use Rattle.world_law.specs.declared.reply.Reply.{Reply}
 use Rattle.world_law.specs.declared.reply.Reply.TheVariants as reply
-use Rattle.world_law.specs.World.{Setting, World, command_at}
+use Rattle.world_law.specs.World.{BenchSetting, World, command_at}
 use Rattle.world_law.specs.Opening.{opened}
 use Rattle.world_law.specs.Enabling.{Enabled}
 use Rattle.world_law.specs.Builds.{is_tried_again}
@@ -34,20 +34,20 @@ changes_world (reply.BusyFront a) = false
 changes_world (reply.BusyStop c) = false
 changes_world _ = true
 
-abbrev pub is_recorded : Setting → Step → Reply → Bool
+abbrev pub is_recorded : BenchSetting → Step → Reply → Bool
 is_recorded g (step.Build l) answer = decides_line (command_at g l) answer
 is_recorded g s answer = changes_world answer
 
 -- ---- runs
 
 -- one recorded step
-pub record Steps (g : Setting) (w : World) (m : Moment) : Type 0 where
+pub record Steps (g : BenchSetting) (w : World) (m : Moment) : Type 0 where
   pub enabled : Enabled g w m.entry.caller m.entry.step
   pub does : Does g w m.entry.caller m.entry.step m.reply m.after
   pub recorded : is_recorded g m.entry.step m.reply ≡ true
 
 -- steps one behind the other, from a world on
-abbrev pub IsRun : Setting → World → List Moment → Type 0
+abbrev pub IsRun : BenchSetting → World → List Moment → Type 0
 IsRun g w [] = Unit {0}
 IsRun g w (m ∷ ms) = Steps g w m × IsRun g m.after ms
 
@@ -67,7 +67,7 @@ abbrev pub accepted : List Moment → List ℕ
 accepted ms = filter_map (λ (m : Moment). built m.reply) ms
 
 -- a list of entries is lawful where a run from the opening has it
-pub record IsLawful (g : Setting) (es : List Entry) : Type 0 where
+pub record IsLawful (g : BenchSetting) (es : List Entry) : Type 0 where
   pub moments : List Moment
   pub run : IsRun g (opened g) moments
   pub are : entries moments ≡ es

@@ -6,7 +6,7 @@ use Rattle.desk_law.specs.declared.stage.Stage.{Stage}
 use Rattle.desk_law.specs.declared.ticket.Ticket.{Ticket}
 use Rattle.desk_law.specs.Desk.{DeskState, due}
 use Rattle.world_law.specs.declared.reply.Seen.{Seen}
-use Rattle.world_law.specs.World.{Setting, World, lines_of}
+use Rattle.world_law.specs.World.{BenchSetting, World, lines_of}
 use Rattle.world_law.specs.Lines.{settled, blocking, drained}
 use Rattle.world_law.specs.Stops.{sweep, is_done}
 
@@ -24,7 +24,7 @@ abbrev pub stage_of : DeskState → Option ℕ → Option Stage
 stage_of d None = None
 stage_of d (Some t) = option_map (λ (k : Ticket). k.stage) (slice_get d.tickets t)
 
-abbrev pub seen : Setting → World → (caller : ℕ) → Step → Seen
+abbrev pub seen : BenchSetting → World → (caller : ℕ) → Step → Seen
 seen g w caller s = record {
   stage = stage_of w.desk (ticket_named s);
   next_line = length (lines_of w caller);

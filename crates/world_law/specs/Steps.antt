@@ -9,7 +9,7 @@ use Rattle.desk_law.specs.Taking.{takes, take_memory}
 use Rattle.desk_law.specs.Reporting.{report_at}
 use Rattle.world_law.specs.declared.reply.Reply.{Reply}
 use Rattle.world_law.specs.declared.reply.Reply.TheVariants as reply
-use Rattle.world_law.specs.World.{Setting, World, command_at}
+use Rattle.world_law.specs.World.{BenchSetting, World, command_at}
 use Rattle.world_law.specs.ChipSteps.{RunsChip}
 use Rattle.world_law.specs.Repairs.{Fixes}
 use Rattle.world_law.specs.Resets.{sweeps, restarts, resets}
@@ -38,7 +38,7 @@ pub record FreesTicket (old : World) (t : ℕ) (answer : Reply) (new : World) : 
   pub world : new ≡ record old { desk = new.desk; reports = old.reports ++ report_at old.desk old.memory t ∷ [] }
 
 -- what a step that is enabled answers, and what it makes of the world
-abbrev pub Does : Setting → World → (caller : ℕ) → Step → Reply → World → Type 0
+abbrev pub Does : BenchSetting → World → (caller : ℕ) → Step → Reply → World → Type 0
 Does g old caller (step.Build l) answer new = BuildsOf (command_at g l) old l answer new
 Does g old caller (step.Link t) answer new = Makes (record old { memory = link_memory old.desk t old.memory; desk = links old.desk t }) answer new
 Does g old caller (step.Queue t) answer new = Makes (record old { memory = queue_memory old.desk t old.memory; desk = queues old.desk t }) answer new

@@ -22,7 +22,7 @@ use Rattle.world_law.specs.declared.reply.Decided.TheVariants.{Open}
 use Rattle.world_law.specs.declared.reply.Reply.{Reply}
 
 -- the rig, and the work as the commands of each submitter and the acts
-pub record Setting : Type 0 where
+pub record BenchSetting : Type 0 where
   pub version : ℕ
   pub units : List RigUnit
   pub retries : ℕ
@@ -32,7 +32,7 @@ pub record Setting : Type 0 where
   pub acts : List Act
 
 -- those of a rig and a work
-pub record IsSetting (g : Setting) : Type 0 where
+pub record IsBenchSetting (g : BenchSetting) : Type 0 where
   pub rig : IsRig g.version g.units g.retries g.step_limit
   pub work : IsWork g.submitters g.acts
 
@@ -52,7 +52,7 @@ pub record World : Type 0 where
 -- ---- lines
 
 -- the commands of a submitter, what was decided of them, and what became of a line
-abbrev pub commands_of : Setting → ℕ → List Command
+abbrev pub commands_of : BenchSetting → ℕ → List Command
 commands_of g s = slice_index_or g.submitters s []
 
 abbrev pub lines_of : World → ℕ → List Decided
@@ -62,10 +62,10 @@ abbrev pub decided : World → Line → Decided
 decided w l = slice_index_or (lines_of w l.submitter) l.number Open
 
 -- the command of a line, and its request
-abbrev pub command_at : Setting → Line → Option Command
+abbrev pub command_at : BenchSetting → Line → Option Command
 command_at g l = slice_get (commands_of g l.submitter) l.number
 
-abbrev pub request_at : Setting → Line → Option RequestData
+abbrev pub request_at : BenchSetting → Line → Option RequestData
 request_at g l = option_map (λ (c : Command). plain c.request) (command_at g l)
 
 -- ---- units
