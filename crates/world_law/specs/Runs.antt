@@ -20,11 +20,7 @@ pub record Moment : Type 0 where
 
 -- ---- which replies are recorded
 
--- a refusal of a command that waits isn't
-abbrev pub decides_line : Option Command → Reply → Bool
-decides_line (Some c) (reply.Refused r) = not (is_tried_again c.when_full r)
-decides_line c answer = true
-
+-- an answer that leaves the world isn't
 abbrev pub changes_world : Reply → Bool
 changes_world reply.Idle = false
 changes_world (reply.NotNow s) = false
@@ -33,6 +29,11 @@ changes_world reply.OutOfMemory = false
 changes_world (reply.BusyFront a) = false
 changes_world (reply.BusyStop c) = false
 changes_world _ = true
+
+-- nor is a refusal of a command that waits
+abbrev pub decides_line : Option Command → Reply → Bool
+decides_line (Some c) (reply.Refused r) = not (is_tried_again c.when_full r)
+decides_line c answer = changes_world answer
 
 abbrev pub is_recorded : BenchSetting → Step → Reply → Bool
 is_recorded g (step.Build l) answer = decides_line (command_at g l) answer
