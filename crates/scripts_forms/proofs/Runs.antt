@@ -1,7 +1,7 @@
 -- A run is ASCII, so it is text.
 use Rattle.std.proofs.Common.{◌≡◌, ℕ, suc, ◌+◌, ◌<◌, List, [], ◌∷◌, length, take, Bool, true, false, ◌&&◌, refl, arith, get_or, inl, inr, IsTrue}
 use Rattle.std.proofs.lemmas.Grind.{common_steps}
-use Rattle.std.proofs.lemmas.Bool.{cases_Bool, false≢true}
+use Rattle.std.proofs.lemmas.Bool.{and_parts, cases_Bool, false≢true}
 use Rattle.std.proofs.lemmas.Bool.Decides.{nat_tests}
 use Rattle.std.proofs.lemmas.Str.{IsUtf8-from_ascii}
 use Rattle.std.proofs.lemmas.Str.Ascii.{IsAscii-nil, IsAscii-cons}
@@ -13,14 +13,10 @@ use Rattle.scripts_forms.proofs.Pieces.{take_one_more}
 run_byte : (b : ℕ) → in_run b ≡ true → b < 128
 run_byte b h = grind (arith, nat_tests)
 
-both : (a b : Bool) → (a && b) ≡ true → (a ≡ true) × (b ≡ true)
-both true b h = (refl, h)
-both false b h = absurd (false≢true h)
-
 run_is_ascii : (bs : List ℕ) → list_all in_run bs ≡ true → IsAscii bs
 run_is_ascii [] h = IsAscii-nil
 run_is_ascii (b ∷ bs) h =
-    let (one, more) = both (in_run b) (list_all in_run bs) h in
+    let (one, more) = and_parts (in_run b) (list_all in_run bs) h in
     IsAscii-cons b bs (run_byte b one) (run_is_ascii bs more)
 
 pub run_is_text : (bs : List ℕ) → IsTrue (list_all in_run bs) → IsUtf8 bs

@@ -40,7 +40,7 @@ phase_text p =
     if nat_eq p 0 then codes "DATA_OUT" else if nat_eq p 1 then codes "DATA_IN" else if nat_eq p 2 then codes "COMMAND" else
     if nat_eq p 3 then codes "STATUS" else if nat_eq p 6 then codes "MSG_OUT" else if nat_eq p 7 then codes "MSG_IN" else []
 
--- A register byte by its place, from 24h on.
+-- A register byte by its place, from 0x24 on.
 abbrev pub late_register_text : ℕ → List ℕ
 late_register_text r =
     if nat_eq r 0x24 then codes "DBC" else if nat_eq r 0x27 then codes "DCMD" else if nat_eq r 0x28 then codes "DNAD" else

@@ -33,7 +33,7 @@ pub enum Key {
     When,
 }
 
-/// A reserved word. A phase is its code, 0 to 3, 6 or 7, a register byte its place, 0 to 5Fh. `Whole` is the name of
+/// A reserved word. A phase is its code, 0 to 3, 6 or 7, a register byte its place, 0 to 0x5F. `Whole` is the name of
 /// a register of four bytes without a digit, by the place of its byte 0.
 #[derive(Clone, Copy, PartialEq, Eq)]
 pub enum Word {

@@ -1,2 +1,2 @@
-pub mod Naming
-pub mod Reading
+pub mod FirstOfName
+pub mod BoundedReads

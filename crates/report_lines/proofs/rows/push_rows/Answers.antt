@@ -1,7 +1,7 @@
 use Rattle.std.proofs.Common.{◌≡◌, ◌<◌, ◌++◌, min, length, take, drop, arith}
 use Rattle.std.proofs.lemmas.Grind.{common_steps}
 use Rattle.report_lines.specs.Lines.{data_line}
-use Rattle.report_lines.proofs.Counting.{data_rows-preserved, data_rows-done}
+use Rattle.report_lines.proofs.RowCounts.{data_rows-preserved, data_rows-done}
 use Rattle.report_lines.proofs.rows.push_rows.Goals as goal
 
 pub loop-rest-preserved : goal.loop-rest-preserved

@@ -1,7 +1,7 @@
 use Rattle.std.proofs.Common.{◌≡◌, ◌<◌, length, arith}
 use Rattle.std.proofs.lemmas.Grind.{common_steps}
 use Rattle.sym_io.specs.ByName.{place_by_name}
-use Rattle.sym_io.proofs.Naming.{set-with_file, push-with_file}
+use Rattle.sym_io.proofs.FirstOfName.{set-with_file, push-with_file}
 use Rattle.sym_io.proofs.files.insert.Goals as goal
 
 pub returns-then-at-len-clause-stored : goal.returns-then-at-len-clause-stored

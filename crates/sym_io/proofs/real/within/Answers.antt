@@ -1,5 +1,5 @@
 use Rattle.std.proofs.Common.{arith, subst, ◌≡◌, IfSome}
-use Rattle.sym_io.proofs.Reading.{all-within}
+use Rattle.sym_io.proofs.BoundedReads.{all-within}
 use Rattle.sym_io.proofs.real.within.Goals as goal
 
 pub returns-clause-whole : goal.returns-clause-whole
