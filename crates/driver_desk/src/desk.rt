@@ -3,7 +3,7 @@
 ghost use Rattle.std.specs.Prelude.{◌≡◌, ◌<◌, ◌+◌, ◌^◌, ◌==◌, ℕ, length, true, false, IsSome};
 ghost use Rattle.std.specs.List.{list_any};
 ghost use Rattle.bench_words.specs.Memory.{word_at};
-ghost use Rattle.host_map.specs.declared.TheConstants.{RINGP, START_RING};
+ghost use Rattle.host_map.specs.declared.TheConstants.{RINGP, START_RING, DONE_RING};
 ghost use Rattle.host_map.specs.Places.{IsCommandBlock};
 ghost use Rattle.job_rings.specs.Rings.{IsSlot, next_slot};
 ghost use Rattle.desk_law.specs.Desk.{ticket, with_ticket, lives, is_rogue, reaper, due, paid, owed, ticket_of, ticket_at};
@@ -110,12 +110,28 @@ impl Desk {
         self.tickets[t as usize].unit
     }
 
-    /// The address of a ticket's block. The ticket was built.
+    /// The address of a ticket's block, one of the 256 command blocks. The ticket was built.
     pub fn block(&self, t: u32) -> u32
         requires { t < length self.now.tickets }
-        ensures { result ≡ (ticket self.now t).block }
+        ensures block { result ≡ (ticket self.now t).block }
+        ensures place { IsCommandBlock result }
     {
         self.tickets[t as usize].block
+    }
+
+    /// How many tickets were built.
+    pub fn ticket_count(&self) -> u32
+        ensures { result ≡ length self.now.tickets }
+    {
+        self.tickets.len() as u32
+    }
+
+    /// How many callers there are: the submitters, the aborter, the reaper and the chip.
+    pub fn caller_count(&self) -> u32
+        ensures due { result ≡ length self.now.due }
+        ensures callers { result ≡ self.now.submitters + 3 }
+    {
+        u32::from(self.submitters) + 3
     }
 
     /// How often a ticket was queued. It was built.
@@ -152,7 +168,8 @@ impl Desk {
 
     /// The address of the done slot that is taken next.
     pub fn done_slot(&self) -> u32
-        ensures { result ≡ self.now.take }
+        ensures slot { result ≡ self.now.take }
+        ensures place { IsSlot DONE_RING result }
     {
         self.take
     }
