@@ -2,7 +2,7 @@
 use Rattle.std.proofs.Common.{◌≡◌, ◌≢◌, ℕ, ℤ, pos, negsuc, zero, suc, ◌+◌, ◌-◌, ◌*◌, ◌%◌, ◌<◌, ◌≤◌, List, [], ◌∷◌, ◌++◌, nat_eq, nat_lt, nat_le, Bool, true, false, not, ◌&&◌, ◌||◌, cond, Option, Some, None, is_some, unwrap_or, slice_get, refl, lit<, sym, ◌∙◌, ap, subst, arith, bit_and, IsTrue, inl, inr}
 use Rattle.std.proofs.lemmas.Grind.{common_steps}
 use Rattle.std.proofs.lemmas.Bool.Decides.{nat_tests}
-use Rattle.std.proofs.lemmas.Bool.{cases_Bool, false≢true}
+use Rattle.std.proofs.lemmas.Bool.{and_parts, cases_Bool, false≢true}
 use Rattle.scripts_ops.specs.declared.values.Change.TheVariants as changes
 use Rattle.scripts_ops.specs.Table.{row, IsPhase, IsOffset, IsPart, IsCondition, is_wide, is_written, is_read}
 use Rattle.scripts_ops.specs.Guess.{offset_of}
@@ -104,10 +104,6 @@ count_is (Some m) n e h = grind (arith, nat_tests)
 offset_is : (n : ℕ) → n < 16777216 → IsOffset (offset_of n)
 offset_is n h = elim (cases_Bool (nat_lt n 8388608)) [ inl k ↦ (rw k (grind (arith, nat_tests))) | inr k ↦ (rw k (grind (arith, nat_tests))) ]
 
-both : (a b : Bool) → (a && b) ≡ true → (a ≡ true) × (b ≡ true)
-both true b h = (refl, h)
-both false b h = absurd (false≢true h)
-
 not_eight : (s : ℕ) → nat_eq s 8 ≡ false → s ≢ 8
 not_eight s k = grind (arith, nat_tests)
 
@@ -125,7 +121,7 @@ change_fields r c s d h l = elim (cases_Bool (nat_eq s 8)) [
   | inl k ↦ rw k (rw k at h, l)
   | inr k ↦ elim (cases_Bool (nat_eq r 8)) [
     | inl j ↦ rw (k, j) (chosen_yes (nat_eq r 8) (is_written s) (nat_eq r s && is_written r) j (chosen_no (nat_eq s 8) (is_read r) (cond (nat_eq r 8) (is_written s) (nat_eq r s && is_written r)) k h), not_eight s k, l)
-    | inr j ↦ (let (same, read) = both (nat_eq r s) (is_written r) (chosen_no (nat_eq r 8) (is_written s) (nat_eq r s && is_written r) j (chosen_no (nat_eq s 8) (is_read r) (cond (nat_eq r 8) (is_written s) (nat_eq r s && is_written r)) k h)) in rw (k, j) (rw (same_number r s same) at read, not_eight s k, l))
+    | inr j ↦ (let (same, read) = and_parts (nat_eq r s) (is_written r) (chosen_no (nat_eq r 8) (is_written s) (nat_eq r s && is_written r) j (chosen_no (nat_eq s 8) (is_read r) (cond (nat_eq r 8) (is_written s) (nat_eq r s && is_written r)) k h)) in rw (k, j) (rw (same_number r s same) at read, not_eight s k, l))
   ]
 ]
 
@@ -142,12 +138,12 @@ part_is : (r : ℕ) (o : Option ℕ) (n : ℕ) → o ≡ Some n → is_part r o 
 part_is r None n e h = absurd (cc)
 part_is r (Some m) n e h =
     let same : m ≡ n = cc in
-    let (front, small) = both (is_wide r && not (nat_eq m 0)) (nat_le (r % 4 + m) 4) h in
-    let (wide, some) = both (is_wide r) (not (nat_eq m 0)) front in
+    let (front, small) = and_parts (is_wide r && not (nat_eq m 0)) (nat_le (r % 4 + m) 4) h in
+    let (wide, some) = and_parts (is_wide r) (not (nat_eq m 0)) front in
     (wide, grind (arith, nat_tests), grind (arith, nat_tests))
 
 pub fields_of : (s : Shape) (ns : Numbers) → allowed s ns ≡ true → all_known ns ≡ true → AllFit s ns → (row (op_of s ns)).fields
-fields_of (shapes.Move p) ns h k f = let (a, b) = both (is_phase p) (is_count (at ns 0)) h in (phase_is p a, count_is (at ns 0) (number_at ns 0) (known_at ns 0 k) b, f)
+fields_of (shapes.Move p) ns h k f = let (a, b) = and_parts (is_phase p) (is_count (at ns 0)) h in (phase_is p a, count_is (at ns 0) (number_at ns 0) (known_at ns 0 k) b, f)
 fields_of (shapes.MoveFrom p) ns h k f = (phase_is p h, offset_is (number_at ns 0) f)
 fields_of shapes.MoveMemory ns h k f = (count_is (at ns 0) (number_at ns 0) (known_at ns 0 k) h, f)
 fields_of (shapes.Modify r c s) ns h k f = change_fields r c s (number_at ns 0) h f

@@ -1,4 +1,4 @@
--- What the second pass gives.
+-- What the second pass gives. No public contract rests on these.
 use Rattle.std.specs.Prelude.{◌≡◌, ◌<◌, ◌≤◌, ℕ, List, Result, Ok, Err}
 use Rattle.scripts_forms.specs.Lines.{Line}
 use Rattle.scripts_asm.specs.declared.assembling.Image.{Image}

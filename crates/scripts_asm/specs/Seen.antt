@@ -1,4 +1,4 @@
--- The program's lines as those of the grammar.
+-- The program's lines as those of the grammar. No public contract rests on these.
 use Rattle.std.specs.Prelude.{ℕ, List, map, option_map}
 use Rattle.std.specs.Borrow.{Bor}
 use Rattle.scripts_forms.specs.Seen.{all_seen}

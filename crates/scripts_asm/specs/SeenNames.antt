@@ -1,4 +1,4 @@
--- What the program's table of names holds.
+-- What the program's table of names holds. No public contract rests on these.
 use Rattle.std.specs.Prelude.{ℕ, List, Option}
 use Rattle.std.specs.Ordering.{nat_cmp}
 use Rattle.std.specs.Cmp.Lexicographic.{slice_cmp}

@@ -1,7 +1,7 @@
 -- A text of an instruction is read as that instruction.
 use Rattle.std.proofs.Common.{◌≡◌, ◌≢◌, ℕ, zero, suc, ◌+◌, ◌*◌, ◌<◌, ◌≤◌, List, [], ◌∷◌, ◌++◌, length, take, drop, map, filter, nat_eq, nat_lt, nat_le, Bool, true, false, not, ◌&&◌, ◌||◌, cond, Option, Some, None, is_some, Result, Ok, Err, refl, sym, ◌∙◌, ap, subst, arith, inl, inr, IsTrue}
 use Rattle.std.proofs.lemmas.Grind.{common_steps}
-use Rattle.std.proofs.lemmas.Bool.{cases_Bool, false≢true}
+use Rattle.std.proofs.lemmas.Bool.{and_parts, cases_Bool, false≢true}
 use Rattle.std.proofs.lemmas.Bool.Decides.{nat_tests}
 use Rattle.std.proofs.lemmas.List.{take_all}
 use Rattle.std.proofs.lemmas.List.Folds.{list_all-append}
@@ -24,7 +24,7 @@ use Rattle.scripts_forms.specs.Lines.{Line, Body, Nothing, Absolute, Instruction
 use Rattle.scripts_list.specs.Texts.{printed, mark_text, number_text, text_of, shape_of, values_of}
 use Rattle.scripts_list.specs.Filled.{filled, FitsHoles}
 use Rattle.scripts_list.specs.RoundTrip.{IsSpelled, texts_of}
-use Rattle.scripts_list.proofs.Printing.{IsGood, IsGoodMark, AreGood, printed_tokens, blank_first, hex_digits, digits_in_run}
+use Rattle.scripts_list.proofs.PrintedForms.{IsGood, IsGoodMark, AreGood, printed_tokens, blank_first, hex_digits, digits_in_run}
 use Rattle.scripts_list.proofs.Shown.{good_items, fits_holes}
 
 -- no comment begins here, and no line ends
@@ -37,14 +37,10 @@ run_plain b h = grind (arith, nat_tests)
 mark_plain : (b : ℕ) → is_mark b ≡ true → is_plain b ≡ true
 mark_plain b h = grind (arith, nat_tests)
 
-both : (a b : Bool) → (a && b) ≡ true → (a ≡ true) × (b ≡ true)
-both true b h = (refl, h)
-both false b h = absurd (false≢true h)
-
 runs_plain : (bs : List ℕ) → list_all in_run bs ≡ true → list_all is_plain bs ≡ true
 runs_plain [] h = refl
 runs_plain (b ∷ bs) h =
-    let (one, more) = both (in_run b) (list_all in_run bs) h in
+    let (one, more) = and_parts (in_run b) (list_all in_run bs) h in
     rw (run_plain b one) (runs_plain bs more)
 
 plain_both : (xs ys : List ℕ) → list_all is_plain xs ≡ true → list_all is_plain ys ≡ true → list_all is_plain (xs ++ ys) ≡ true
@@ -74,8 +70,8 @@ plain_again s ns h = h
 len_plain : (xs : List ℕ) → list_all is_plain xs ≡ true → position_or_len (λ b. nat_eq b 59) xs ≡ length xs
 len_plain [] h = refl
 len_plain (x ∷ xs) h =
-    let (one, more) = both (is_plain x) (list_all is_plain xs) h in
-    let (a, b) = both (not (nat_eq x 59)) (not (nat_eq x 10)) one in
+    let (one, more) = and_parts (is_plain x) (list_all is_plain xs) h in
+    let (a, b) = and_parts (not (nat_eq x 59)) (not (nat_eq x 10)) one in
     rw (a, len_plain xs more) (omega arith)
 
 no_comment : (xs : List ℕ) → list_all is_plain xs ≡ true → before_first (λ b. nat_eq b 59) xs ≡ xs
@@ -149,8 +145,8 @@ not_true false h = refl
 pub split_plain : (xs ys : List ℕ) → list_all is_plain xs ≡ true → lines_of (xs ++ 10 ∷ ys) ≡ xs ∷ lines_of ys
 split_plain [] ys h = refl
 split_plain (x ∷ xs) ys h =
-    let (one, more) = both (is_plain x) (list_all is_plain xs) h in
-    let (a, b) = both (not (nat_eq x 59)) (not (nat_eq x 10)) one in
+    let (one, more) = and_parts (is_plain x) (list_all is_plain xs) h in
+    let (a, b) = and_parts (not (nat_eq x 59)) (not (nat_eq x 10)) one in
     rw (not_true (nat_eq x 10) b, split_plain xs ys more) refl
 
 abbrev pub lines_with : List Op → List Line

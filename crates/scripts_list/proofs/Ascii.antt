@@ -1,7 +1,7 @@
 -- What a listing writes is ASCII, and an instruction's text begins behind a blank.
 use Rattle.std.proofs.Common.{◌≡◌, ℕ, ◌-◌, ◌<◌, ◌≤◌, List, [], ◌∷◌, take, length, drop, get_or, nat_lt, ◌&&◌, Bool, true, false, IsTrue, refl, lit<, arith}
 use Rattle.std.proofs.lemmas.Grind.{common_steps}
-use Rattle.std.proofs.lemmas.Bool.{false≢true}
+use Rattle.std.proofs.lemmas.Bool.{and_parts, false≢true}
 use Rattle.std.proofs.lemmas.Bool.Decides.{nat_tests}
 use Rattle.std.proofs.lemmas.Str.{encode_ascii}
 use lib.Utf8.{encode}
@@ -67,10 +67,6 @@ items_ascii shapes.Nop = refl
 items_ascii (shapes.Load r from_dsa) = place_ascii from_dsa
 items_ascii (shapes.Store r from_dsa) = place_ascii from_dsa
 
-both : (a b : Bool) → (a && b) ≡ true → (a ≡ true) × (b ≡ true)
-both true b h = (refl, h)
-both false b h = absurd (false≢true h)
-
 is_below : (m : ℕ) → nat_lt m 128 ≡ true → m < 128
 is_below m h = grind (arith, nat_tests)
 
@@ -79,7 +75,7 @@ first_ascii [] d m l e h = absurd (omega arith)
 first_ascii (item.Fixed w ∷ is) d m l e h = absurd (cc)
 first_ascii (item.Value most ∷ is) d m l e h = absurd (cc)
 first_ascii (item.Mark k ∷ is) d m l e h =
-    let (small, more) = both (nat_lt k 128) (are_ascii is) h in
+    let (small, more) = and_parts (nat_lt k 128) (are_ascii is) h in
     let same : k ≡ m = cc in
     rw same at (is_below k small)
 
@@ -87,7 +83,7 @@ after_first : (is : List Item) → IsTrue (are_ascii is) → IsTrue (are_ascii (
 after_first [] h = refl
 after_first (item.Fixed w ∷ is) h = h
 after_first (item.Value most ∷ is) h = h
-after_first (item.Mark k ∷ is) h = (both (nat_lt k 128) (are_ascii is) h).1
+after_first (item.Mark k ∷ is) h = (and_parts (nat_lt k 128) (are_ascii is) h).1
 
 rest_is : (is : List Item) → take (length is - 1) (drop 1 is) ≡ drop 1 is
 rest_is [] = refl

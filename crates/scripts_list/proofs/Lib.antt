@@ -1,5 +1,5 @@
 pub mod Ascii
-pub mod Printing
+pub mod PrintedForms
 pub mod Shown
 pub mod Again
 pub mod Whole

@@ -2,9 +2,9 @@ pub mod Places
 pub mod Devices
 pub mod Views
 pub mod Opening
-pub mod Moving
-pub mod Acting
-pub mod Reselecting
+pub mod DeviceCalls
+pub mod Moves
+pub mod Reselections
 pub mod TaskExits
 pub mod Parted
 pub mod Acks
@@ -12,4 +12,4 @@ pub mod Begins
 pub mod Resets
 pub mod Tells
 pub mod Choices
-pub mod Tagging
+pub mod DistinctTags

@@ -61,7 +61,7 @@ rooms_reset (None ∷ qs) = ap (λ xs. 0 ∷ xs) (rooms_reset qs)
 rooms_reset (Some q ∷ qs) = ap (λ xs. q.core.log.room ∷ xs) (rooms_reset qs)
 
 -- what is said of the unit of a LUN, said of its place
-unit_is : (slots : List (Option QueuedUnit)) (lun : ℕ) (o : Option (Option QueuedUnit)) → slice_get slots lun ≡ o → unit_at (map slot_of slots) lun ≡ flat (option_map slot_of o)
+pub unit_is : (slots : List (Option QueuedUnit)) (lun : ℕ) (o : Option (Option QueuedUnit)) → slice_get slots lun ≡ o → unit_at (map slot_of slots) lun ≡ flat (option_map slot_of o)
 unfolding unit_at
 unit_is slots lun o e = ap flat (slice_get-map slot_of slots lun ∙ ap (λ x. option_map slot_of x) e)
 

@@ -1,5 +1,6 @@
 -- What a reset of all units asks of their logs, and what it makes of a device.
 use Rattle.std.proofs.Common.{◌≡◌, ℕ, zero, suc, ◌+◌, ◌-◌, ◌≤◌, ◌<◌, Bool, true, false, List, [], ◌∷◌, refl, ap, arith, sym, ◌∙◌, Option, Some, None, nat_le, nat_lt, ◌&&◌, not, length, subst, slice_set, get_or, drop, map, option_map, if◌then◌else◌}
+use Rattle.std.proofs.lemmas.Bool.{and_parts}
 use Rattle.std.specs.Prelude.{slice_get}
 use Rattle.std.proofs.lemmas.Bool.Decides.{nat_tests}
 use Rattle.std.specs.List.{list_any}
@@ -82,17 +83,12 @@ all_can_set (Some x ∷ slots) zero q p e f =
     first_set (can_reset p) (can_reset x) (all_can_reset slots) (λ h. ap can_reset same ∙ f h)
 all_can_set (x ∷ slots) (suc lun) q p e f = ap (λ b. slot_can_reset x && b) (all_can_set slots lun q p e f) ∙ and-assoc (slot_can_reset x) (all_can_reset slots) (can_reset p)
 
-both : (a b : Bool) → (a && b) ≡ true → (a ≡ true) × (b ≡ true)
-both true true e = (refl, refl)
-both true false e = cc
-both false b e = cc
-
 all_at : (slots : List (Option QueuedUnit)) (k : ℕ) (q : QueuedUnit) → all_can_reset slots ≡ true → slice_get slots k ≡ Some (Some q) → can_reset q ≡ true
 unfolding all_can_reset
 all_at [] k q a e = cc
 all_at (None ∷ slots) zero q a e = cc
-all_at (Some x ∷ slots) zero q a e = let same : x ≡ q = cc in ap can_reset (sym same) ∙ (both (can_reset x) (all_can_reset slots) a).0
-all_at (x ∷ slots) (suc k) q a e = all_at slots k q (both (slot_can_reset x) (all_can_reset slots) a).1 e
+all_at (Some x ∷ slots) zero q a e = let same : x ≡ q = cc in ap can_reset (sym same) ∙ (and_parts (can_reset x) (all_can_reset slots) a).0
+all_at (x ∷ slots) (suc k) q a e = all_at slots k q (and_parts (slot_can_reset x) (all_can_reset slots) a).1 e
 
 -- a unit after its reset
 tasks_reset : (u : LogicalUnit) → (unit_reset u).tasks ≡ []
@@ -275,8 +271,8 @@ first_length (suc n) (q ∷ slots) = ap suc (first_length n slots)
 pub can_at : (n : ℕ) (slots : List (Option QueuedUnit)) (d : Option QueuedUnit) → all_can_reset slots ≡ true → n < length slots → slot_can_reset (get_or slots n d) ≡ true
 unfolding all_can_reset
 can_at n [] d a l = let f : ⊥ = omega arith in absurd f
-can_at zero (q ∷ slots) d a l = (both (slot_can_reset q) (all_can_reset slots) a).0
-can_at (suc n) (q ∷ slots) d a l = can_at n slots d (both (slot_can_reset q) (all_can_reset slots) a).1 (omega arith)
+can_at zero (q ∷ slots) d a l = (and_parts (slot_can_reset q) (all_can_reset slots) a).0
+can_at (suc n) (q ∷ slots) d a l = can_at n slots d (and_parts (slot_can_reset q) (all_can_reset slots) a).1 (omega arith)
 
 -- and whether each can
 can_drop : (n : ℕ) (slots : List (Option QueuedUnit)) (d : Option QueuedUnit) → n < length slots → all_can_reset (drop n slots) ≡ (slot_can_reset (get_or slots n d) && all_can_reset (drop (suc n) slots))

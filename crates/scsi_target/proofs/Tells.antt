@@ -1,14 +1,13 @@
 -- What a device is after a message of the initiator.
-use Rattle.std.proofs.Common.{◌≡◌, ℕ, zero, suc, ◌<◌, ◌≤◌, Bool, true, false, List, [], ◌∷◌, length, slice_index_or, arith, ◌⊎◌, inl, inr, refl, ap, sym, ◌∙◌, Option, Some, None, map, option_map, subst}
+use Rattle.std.proofs.Common.{◌≡◌, ℕ, zero, suc, ◌<◌, ◌≤◌, Bool, true, false, List, [], ◌∷◌, length, slice_index_or, arith, ◌⊎◌, inl, inr, refl, ap, sym, ◌∙◌, Option, Some, None, map, subst}
 use Rattle.std.specs.Prelude.{slice_get}
-use Rattle.std.proofs.lemmas.Option.{slice_get-map}
 use Rattle.scsi_target.specs.declared.connection_state.Block.{Block}
 use Rattle.target_law.specs.declared.nexus.Nexus.{Nexus}
 use Rattle.target_law.specs.declared.rogue_phase.RoguePhase.{RoguePhase}
 use Rattle.target_law.specs.declared.rogue_phase.RoguePhase.TheVariants as rogue_shows
 use Rattle.target_law.specs.declared.task_phase.TaskPhase.{TaskPhase}
 use Rattle.target_law.specs.Bytes.{Connection}
-use Rattle.target_law.specs.Target.{LogicalUnit, ConnectionState, BusFree, Selected, TakingCommand, TaskConnected, RogueConnected, Target, at_lun, on_unit, unit_at, flat, linked, target_reset}
+use Rattle.target_law.specs.Target.{LogicalUnit, ConnectionState, BusFree, Selected, TakingCommand, TaskConnected, RogueConnected, Target, at_lun, on_unit, unit_at, linked, target_reset}
 use Rattle.target_law.specs.Calls.{InitiatorMessage, Names, Resets, AbortsTag, Other, message_of, greeted, aborted, told, messaged_by, target_messaged}
 use Rattle.unit_tasks.specs.declared.queued.QueuedUnit.{QueuedUnit}
 use Rattle.target_law.specs.Devices.{where_room}
@@ -24,6 +23,7 @@ use Rattle.scsi_target.specs.declared.initiator_message.InitiatorMessage.{Initia
 use Rattle.scsi_target.specs.declared.initiator_message.InitiatorMessage.TheVariants as read
 use Rattle.scsi_target.proofs.Acks.{where_linked}
 use Rattle.scsi_target.proofs.Devices.{device_relinked}
+use Rattle.scsi_target.proofs.Places.{unit_is}
 
 pub messaged_is : (t : Target) → target_messaged t ≡ messaged_by t.link t
 unfolding target_messaged
@@ -122,11 +122,6 @@ messaged_other (held.Selected heard) us e f g = absurd (e heard refl)
 messaged_other (held.TakingCommand n block) us e f g = messaged_is _
 messaged_other (held.TaskConnected c) us e f g = absurd (f c refl)
 messaged_other (held.RogueConnected s n) us e f g = absurd (g s n refl)
-
--- the unit that a message names
-unit_is : (slots : List (Option QueuedUnit)) (lun : ℕ) (o : Option (Option QueuedUnit)) → slice_get slots lun ≡ o → unit_at (map slot_of slots) lun ≡ flat (option_map slot_of o)
-unfolding unit_at
-unit_is slots lun o e = ap flat (slice_get-map slot_of slots lun ∙ ap (λ x. option_map slot_of x) e)
 
 got : (slots : List (Option QueuedUnit)) (n : ℕ) (o : Option QueuedUnit) → n < length slots → o ≡ slice_index_or slots n o → slice_get slots n ≡ Some o
 got [] n o l e = let f : ⊥ = omega arith in absurd f

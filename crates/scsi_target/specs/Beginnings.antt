@@ -1,4 +1,4 @@
--- The link where a task is made of a command.
+-- The link where a task is made of a command. No public contract rests on these.
 use Rattle.std.specs.Prelude.{◌≡◌, ℕ, ◌<◌, nat_lt, ◌||◌, if◌then◌else◌, Bool, false, List, [], length}
 use Rattle.cdb_codec.specs.declared.commands.Cdb.{Cdb}
 use Rattle.cdb_codec.specs.Forms.{need_of}

@@ -1,4 +1,4 @@
--- The messages of an initiator as the code tells them, and what they make of the link.
+-- The messages of an initiator as the code tells them, and what they make of the link. No public contract rests on these.
 use Rattle.std.specs.Prelude.{Bool, true, false, [], Option, Some, None}
 use Rattle.target_law.specs.declared.nexus.Nexus.{Nexus}
 use Rattle.target_law.specs.Target.{LogicalUnit, ConnectionState, BusFree, TakingCommand}

@@ -1,4 +1,4 @@
--- What a move makes of a unit and of its connected task, where the log has room for the entries. Source: own.
+-- What a move makes of a unit and of its connected task, where the log has room for the entries. No public contract rests on these. Source: own.
 use Rattle.std.specs.Prelude.{nat_le, Bool, true, false, length}
 use Rattle.unit_core.specs.declared.Core.{Core}
 use Rattle.target_law.specs.Session.{Session}

@@ -1,4 +1,4 @@
--- What a reset asks and makes of the units, with a connected task among the others.
+-- What a reset asks and makes of the units, with a connected task among the others. No public contract rests on these.
 use Rattle.std.specs.Prelude.{ℕ, zero, suc, List, [], ◌∷◌, Option}
 use Rattle.target_law.specs.Session.{Task}
 use Rattle.target_law.specs.Target.{unit_left}

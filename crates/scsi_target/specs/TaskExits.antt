@@ -1,4 +1,4 @@
--- How a connected task leaves the bus, and what that makes of its unit and of the target.
+-- How a connected task leaves the bus, and what that makes of its unit and of the target. No public contract rests on these.
 use Rattle.std.specs.Prelude.{◌≡◌, ℕ, nat_le, if◌then◌else◌, false, length, Option, Some, None}
 use Rattle.target_law.specs.declared.task_phase.TargetMessage.{TargetMessage}
 use Rattle.target_law.specs.declared.task_phase.TargetMessage.TheVariants.{CommandComplete, Disconnect}

@@ -37,7 +37,7 @@ impl Device {
         ensures { self.new ≡ record { target = target_begun self.old.target ticket; rooms = self.old.rooms } }
     {
         let link = mem::replace(&mut self.link, ConnectionState::BusFree);
-        self.link = begun(&mut self.units, link, ticket);
+        self.link = begin_from_link(&mut self.units, link, ticket);
     }
 
     /// Takes a byte from the initiator as `byte_out` does. Where it is the last one of a command descriptor block, the
@@ -75,7 +75,7 @@ fn where_placed(place: bool, ticket: Option<u32>) -> Option<u32>
 }
 
 /// The link after the beginning of a task.
-fn begun(
+fn begin_from_link(
     units: &mut Vec<Option<QueuedUnit>>,
     link: ConnectionState,
     ticket: Option<u32>,
@@ -91,13 +91,15 @@ fn begun(
         IsDevice (vec_len units.new) units.new.items result rogue }
 {
     match link {
-        ConnectionState::TakingCommand(nexus, block) => begin_where(units, nexus, block, ticket),
+        ConnectionState::TakingCommand(nexus, block) => begin_for_nexus(
+            units, nexus, block, ticket,
+        ),
         _ => unreachable!(),
     }
 }
 
 /// The link after the command of a nexus, with the live ticket of its tag, if there is one.
-fn begin_where(
+fn begin_for_nexus(
     units: &mut Vec<Option<QueuedUnit>>,
     nexus: Nexus,
     block: Block,
@@ -113,13 +115,13 @@ fn begin_where(
     ensures device { IsDevice (vec_len units.new) units.new.items result false }
 {
     match ticket {
-        Some(ticket) => begin_at(units, nexus, &block, ticket),
+        Some(ticket) => begin_for_ticket(units, nexus, &block, ticket),
         None => ConnectionState::BusFree,
     }
 }
 
 /// The link after the command of a nexus with a live ticket.
-fn begin_at(
+fn begin_for_ticket(
     units: &mut Vec<Option<QueuedUnit>>,
     nexus: Nexus,
     block: &Block,
@@ -135,13 +137,13 @@ fn begin_at(
     ensures device { IsDevice (vec_len units.new) units.new.items result false }
 {
     match &mut units[nexus.lun as usize] {
-        Some(unit) => begin(unit, nexus, block, ticket),
+        Some(unit) => begin_in_unit(unit, nexus, block, ticket),
         None => unreachable!(),
     }
 }
 
 /// The link after the command of a unit's tag.
-fn begin(unit: &mut QueuedUnit, nexus: Nexus, block: &Block, ticket: u32) -> ConnectionState
+fn begin_in_unit(unit: &mut QueuedUnit, nexus: Nexus, block: &Block, ticket: u32) -> ConnectionState
     requires slot { IsSlot false (held.TakingCommand nexus block.now) nexus.lun unit.old }
     requires whole { is_whole block.now.bytes.items ≡ true }
     requires place { HasPlaceFor nexus (unit_of unit.old) }

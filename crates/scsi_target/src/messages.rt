@@ -69,7 +69,7 @@ fn acked(units: &mut Vec<Option<QueuedUnit>>, link: ConnectionState) -> Connecti
         IsDevice (vec_len units.new) units.new.items result rogue }
 {
     match link {
-        ConnectionState::TaskConnected(connection) => hear(units, connection),
+        ConnectionState::TaskConnected(connection) => acked_connected(units, connection),
         ConnectionState::RogueConnected(shown, named) => ConnectionState::RogueConnected(
             rogue_target::heard(shown),
             named,
@@ -79,7 +79,7 @@ fn acked(units: &mut Vec<Option<QueuedUnit>>, link: ConnectionState) -> Connecti
 }
 
 /// A message of a connected task is acknowledged.
-fn hear(units: &mut Vec<Option<QueuedUnit>>, connection: Connection) -> ConnectionState
+fn acked_connected(units: &mut Vec<Option<QueuedUnit>>, connection: Connection) -> ConnectionState
     requires { IsDevice (vec_len units.old) units.old.items (held.TaskConnected connection) false }
     ensures state { device_of units.new.items result ≡ where_room (device_of units.old.items (held.TaskConnected connection))
         (target_acked (device_of units.old.items (held.TaskConnected connection)).target) }

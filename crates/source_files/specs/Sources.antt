@@ -5,7 +5,7 @@ use Rattle.scripts_asm.specs.declared.assembling.AsmFault.{AsmFault}
 use Rattle.scripts_asm.specs.declared.assembling.AsmFault.TheVariants.{OutOfMemory}
 use Rattle.scripts_asm.specs.Image.{Assembles}
 
--- a byte above 7Fh reads as `?`
+-- a byte above 0x7F reads as `?`
 abbrev pub read_as : ℕ → ℕ
 read_as b = if nat_lt b 128 then b else 63
 

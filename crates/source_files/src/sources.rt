@@ -6,7 +6,7 @@ ghost use Rattle.source_files.specs.Sources.{read_as, source_text};
 use scripts_asm::{AsmFault, Image, assemble};
 use std::alloc::{AllocError, Global};
 
-/// The character that a byte reads as: itself up to 7Fh, `?` above.
+/// The character that a byte reads as: itself up to 0x7F, `?` above.
 fn character(byte: u8) -> u8
     ensures seen { result ≡ read_as byte }
     ensures ascii { result < 128 }
@@ -24,7 +24,7 @@ fn text_of(alloc: Global, source: &[u8]) -> Result<String, AllocError>
     Ok(text)
 }
 
-/// The image of a source of at most 4,294,967,294 bytes, or its first fault. A byte above 7Fh reads as `?`.
+/// The image of a source of at most 4,294,967,294 bytes, or its first fault. A byte above 0x7F reads as `?`.
 pub fn assemble_source(alloc: Global, source: &[u8]) -> Result<Image, AsmFault>
     requires { length source.now < 4294967295 }
     ensures { Assembles (source_text source.now) result }

@@ -2,4 +2,4 @@ pub mod Offers
 pub mod Places
 pub mod Acts
 pub mod Closes
-pub mod Hearing
+pub mod DataRoom

@@ -1,5 +1,6 @@
 -- Each move that a word names is lawful.
 use Rattle.std.proofs.Common.{◌≡◌, ℕ, zero, suc, ◌+◌, ◌≤◌, ◌<◌, ◌%◌, Bool, true, false, List, [], ◌∷◌, ◌++◌, refl, subst, arith, Some, cond, nat_eq, nat_lt, ◌&&◌, not, ◌⊎◌, inl, inr}
+use Rattle.std.proofs.lemmas.Bool.{and_parts}
 use Rattle.std.specs.Prelude.{slice_get}
 use Rattle.std.proofs.lemmas.Bool.Decides.{nat_tests}
 use Rattle.target_law.specs.declared.moves.Move.{Move}
@@ -36,11 +37,6 @@ go-most b r w = grind (arith, nat_tests)
 go-all : (b r w : ℕ) → b ≡ 0 → cond (nat_eq b 0) r (cond (nat_eq r 0) 0 (1 + w % r)) ≡ r
 go-all b r w h = grind (arith, nat_tests)
 
-both : (a b : Bool) → (a && b) ≡ true → (a ≡ true) × (b ≡ true)
-both true true e = (refl, refl)
-both true false e = cc
-both false b e = cc
-
 not-true : (a : Bool) → not a ≡ true → a ≡ false
 not-true true e = cc
 not-true false e = refl
@@ -62,8 +58,8 @@ names_can s limit refused word m h =
       tt,
     )) in
     let refuse = each-if P (can_refuse s limit refused) (Busy ∷ QueueFull ∷ []) (λ e.
-    let t = both s.task.fresh (not s.task.senses && nat_lt refused limit) e in
-    let u = both (not s.task.senses) (nat_lt refused limit) t.1 in
+    let t = and_parts s.task.fresh (not s.task.senses && nat_lt refused limit) e in
+    let u = and_parts (not s.task.senses) (nat_lt refused limit) t.1 in
     let can : CanRefuse s limit refused = record { fresh = t.0; plain = not-true s.task.senses u.0; few = lt_of refused limit u.1 } in
     (can, (can, tt))) in
     let spend = each-if P (can_spend s) (Leave ∷ SaveLeave ∷ Save ∷ Restore ∷ []) (λ e. let l = lt_of 0 s.task.budget e in (l, (l, (l, (l, tt))))) in

@@ -1,4 +1,4 @@
--- The word of a move: its place among the lawful moves, and the low bits. Source: own.
+-- The word of a move: its place among the lawful moves, and the low bits. No public contract rests on these. Source: own.
 use Rattle.std.specs.Prelude.{ℕ, ◌+◌, ◌-◌, Bool, if◌then◌else◌}
 use Rattle.target_law.specs.declared.moves.Move.{Move}
 use Rattle.target_law.specs.declared.moves.Move.TheVariants.{Go, Busy, QueueFull, Leave, SaveLeave, Save, Restore, Rogue}

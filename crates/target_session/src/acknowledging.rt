@@ -18,10 +18,10 @@ impl Connection {
         ensures connection { self.new ≡ heard_on self.old.shows self.old }
         ensures sound { (core : Core) → IsSound (session_of core self.old) → IsSound (session_of core self.new) }
     {
-        self.hear();
+        self.go_on_by_message();
     }
 
-    fn hear(&mut self)
+    fn go_on_by_message(&mut self)
         ensures { self.new ≡ heard_on self.old.shows self.old }
     {
         let TaskPhase::MessageIn { message, .. } = self.shows else {

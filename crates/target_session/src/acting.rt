@@ -31,11 +31,11 @@ impl Connection {
         ensures sound { IsSound (session_of core.new self.new) }
         ensures others { (k : Task) → IsWaiting core.old.lun k → IsWaiting core.new.lun k }
     {
-        self.perform(core, m);
+        self.act_by_kind(core, m);
     }
 
     #[tactic(auto, unfolding(target_law::specs::Session::acted))]
-    fn perform(&mut self, core: &mut Core, m: Move)
+    fn act_by_kind(&mut self, core: &mut Core, m: Move)
         requires sound { IsSoundTask core.old.lun self.old.task }
         requires lawful { (limit : ℕ) × ((refused : ℕ) × Can m (session_of core.old self.old) limit refused) }
         requires room { length core.old.log.entries < length (acted m (session_of core.old self.old)).log →

@@ -29,10 +29,10 @@ impl Connection {
         ensures lawful { Can result (session_of core.now self.now) limit
             (tally self.now.task.ticket core.now.log.entries).refusals }
     {
-        self.pick(core, limit, word)
+        self.choose_named(core, limit, word)
     }
 
-    fn pick(&self, core: &Core, limit: u8, word: u32) -> Move
+    fn choose_named(&self, core: &Core, limit: u8, word: u32) -> Move
         requires { (can_go (session_of core.now self.now) ≡ true) ⊎ (can_spend (session_of core.now self.now) ≡ true) }
         ensures { Names (session_of core.now self.now) limit
             (tally self.now.task.ticket core.now.log.entries).refusals word result }

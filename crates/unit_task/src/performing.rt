@@ -97,10 +97,10 @@ impl Task {
         ensures unit { unit.new ≡ unit_ended unit.old self.now }
         ensures others { (k : TaskOf) → IsWaiting unit.old k → IsWaiting unit.new k }
     {
-        self.finish(unit);
+        self.end_by_kind(unit);
     }
 
-    fn finish(&self, unit: &mut Lun)
+    fn end_by_kind(&self, unit: &mut Lun)
         requires sound { IsSoundTask unit.old self.now }
         requires all_moved { total unit.old self.now - self.now.position ≡ 0 }
         ensures { unit.new ≡ unit_ended unit.old self.now }

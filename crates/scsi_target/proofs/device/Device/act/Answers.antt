@@ -1,9 +1,10 @@
 use Rattle.std.proofs.Common.{◌∙◌}
-use Rattle.scsi_target.proofs.Moving.{working_unit, working_none, can_of}
-use Rattle.scsi_target.proofs.Acting.{device_lies, device_moved, view_moved, device_rogue, view_rogue}
+use Rattle.scsi_target.proofs.DeviceCalls.{working_unit, working_none, can_of}
+use Rattle.scsi_target.proofs.Moves.{device_moved, view_moved, device_rogue, view_rogue}
+use Rattle.scsi_target.proofs.Parted.{device_lies}
 use Rattle.target_law.proofs.Tags.{tags_stay}
 use Rattle.scsi_target.specs.declared.connection_state.ConnectionState.TheVariants as held
-use Rattle.scsi_target.proofs.Tagging.{seen, told_where}
+use Rattle.scsi_target.proofs.DistinctTags.{seen, told_where}
 use Rattle.scsi_target.proofs.device.Device.act.Goals as goal
 use Rattle.scsi_target.proofs.device.Device.act.Goals.{in-TaskConnected-1, in-BusFree-1}
 

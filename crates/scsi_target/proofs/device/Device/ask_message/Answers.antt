@@ -7,8 +7,8 @@ use Rattle.scsi_target.specs.Views.{device_of}
 use Rattle.scsi_target.specs.contracts.device.Device.{the_invariant}
 use Rattle.scsi_target.specs.declared.connection_state.ConnectionState.{ConnectionState as HeldState}
 use Rattle.scsi_target.specs.declared.connection_state.ConnectionState.TheVariants as held
-use Rattle.scsi_target.proofs.Moving.{device_told}
-use Rattle.scsi_target.proofs.Tagging.{relinked}
+use Rattle.scsi_target.proofs.DeviceCalls.{device_told}
+use Rattle.scsi_target.proofs.DistinctTags.{relinked}
 use Rattle.scsi_target.proofs.device.Device.ask_message.Goals as goal
 use Rattle.scsi_target.proofs.device.Device.ask_message.Goals.{in-TaskConnected, in_default}
 

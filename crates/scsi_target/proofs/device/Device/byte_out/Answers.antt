@@ -1,6 +1,6 @@
 use Rattle.scsi_target.proofs.Devices.{device_relinked}
 use Rattle.target_law.proofs.Tags.{tags_stay}
-use Rattle.scsi_target.proofs.Tagging.{relinked}
+use Rattle.scsi_target.proofs.DistinctTags.{relinked}
 use Rattle.scsi_target.proofs.device.Device.byte_out.Goals as goal
 
 pub invariant_of-self : goal.invariant_of-self

@@ -1,4 +1,4 @@
-use Rattle.scsi_target.proofs.Tagging.{seen}
+use Rattle.scsi_target.proofs.DistinctTags.{seen}
 use Rattle.scsi_target.proofs.device.Device.cdb_whole.Goals as goal
 
 pub returns-clause-tags : goal.returns-clause-tags

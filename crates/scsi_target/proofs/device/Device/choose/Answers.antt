@@ -1,4 +1,4 @@
-use Rattle.scsi_target.proofs.Moving.{working_unit, to_choose, named_in, may_in}
+use Rattle.scsi_target.proofs.DeviceCalls.{working_unit, to_choose, named_in, may_in}
 use Rattle.scsi_target.proofs.device.Device.choose.Goals as goal
 
 pub returns-in-Some-clause-named : goal.returns-in-Some-clause-named

@@ -4,7 +4,7 @@ use Rattle.target_law.proofs.Tags.{tags_stay}
 use Rattle.scsi_target.specs.Held.{IsHeldDevice}
 use Rattle.scsi_target.specs.Views.{device_of}
 use Rattle.scsi_target.specs.declared.connection_state.ConnectionState.{ConnectionState as HeldState}
-use Rattle.scsi_target.proofs.Tagging.{told_where}
+use Rattle.scsi_target.proofs.DistinctTags.{told_where}
 use Rattle.scsi_target.proofs.device.Device.end_ack.Goals as goal
 
 pub invariant_of-self : goal.invariant_of-self

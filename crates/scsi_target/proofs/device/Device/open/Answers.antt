@@ -3,7 +3,7 @@ use Rattle.scsi_target.specs.Views.{IsDevice}
 use Rattle.scsi_target.specs.declared.connection_state.ConnectionState.TheVariants as held
 use Rattle.scsi_target.proofs.Opening.{opens_start, opens_more, opens_device, opens_state}
 use Rattle.target_law.proofs.Tags.{tags_stay}
-use Rattle.scsi_target.proofs.Tagging.{told}
+use Rattle.scsi_target.proofs.DistinctTags.{told}
 use Rattle.scsi_target.proofs.device.Device.open.Goals as goal
 
 pub loop-unit-init : goal.loop-unit-init

@@ -1,12 +1,12 @@
 use Rattle.std.proofs.Common.{false, Some, ◌<◌, ◌∙◌, arith, subst, length}
 use Rattle.scsi_target.proofs.Places.{there_in, read_unit, is_unit, not_none, in_range}
-use Rattle.scsi_target.proofs.Moving.{free_link}
-use Rattle.scsi_target.proofs.Reselecting.{few, device_named, view_named, device_back, view_back}
+use Rattle.scsi_target.proofs.DeviceCalls.{free_link}
+use Rattle.scsi_target.proofs.Reselections.{few, device_named, view_named, device_back, view_back}
 use Rattle.target_law.specs.declared.task_phase.ReselectByte.TheVariants as part
 use Rattle.target_law.specs.declared.rogue_phase.RoguePhase.TheVariants.{Reselection}
 use Rattle.target_law.proofs.Tags.{tags_stay}
 use Rattle.scsi_target.specs.declared.connection_state.ConnectionState.TheVariants as held
-use Rattle.scsi_target.proofs.Tagging.{seen, told}
+use Rattle.scsi_target.proofs.DistinctTags.{seen, told}
 use Rattle.scsi_target.proofs.device.Device.reselect.Goals as goal
 use Rattle.scsi_target.proofs.device.Device.reselect.Goals.{in-TaskConnected-2, in-BusFree-2}
 

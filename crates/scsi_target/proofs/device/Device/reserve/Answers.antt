@@ -10,7 +10,7 @@ use Rattle.scsi_target.specs.Views.{IsSlot, device_of, link_of}
 use Rattle.target_law.specs.Devices.{DeviceState, device_reserved}
 use Rattle.scsi_target.proofs.Places.{room_there, there_in, back_in, read_unit, not_none, in_range, within, units_stay, rooms_stay, reserved_is}
 use Rattle.scsi_target.proofs.Devices.{device_set, linked_by, connected_log}
-use Rattle.scsi_target.proofs.Tagging.{same_units}
+use Rattle.scsi_target.proofs.DistinctTags.{same_units}
 use Rattle.scsi_target.proofs.device.Device.reserve.Goals as goal
 
 pub index_mut-requires : goal.index_mut-requires

@@ -1,6 +1,6 @@
-use Rattle.scsi_target.proofs.Moving.{free_link, device_selected, view_selected}
+use Rattle.scsi_target.proofs.DeviceCalls.{free_link, device_selected, view_selected}
 use Rattle.target_law.proofs.Tags.{tags_stay}
-use Rattle.scsi_target.proofs.Tagging.{seen, told}
+use Rattle.scsi_target.proofs.DistinctTags.{seen, told}
 use Rattle.scsi_target.proofs.device.Device.select.Goals as goal
 
 pub invariant_of-self : goal.invariant_of-self

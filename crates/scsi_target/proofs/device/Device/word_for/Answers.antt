@@ -1,4 +1,4 @@
-use Rattle.scsi_target.proofs.Moving.{working_unit, working_none, can_of, named_in}
+use Rattle.scsi_target.proofs.DeviceCalls.{working_unit, working_none, can_of, named_in}
 use Rattle.scsi_target.proofs.device.Device.word_for.Goals as goal
 
 pub word_for-requires-clause-lawful : goal.word_for-requires-clause-lawful

@@ -1,6 +1,6 @@
 use Rattle.std.proofs.Common.{◌≡◌}
 use Rattle.target_law.specs.declared.task_phase.TaskPhase.TheVariants.{DataOut}
-use Rattle.target_session.proofs.Hearing.{receiving-room}
+use Rattle.target_session.proofs.DataRoom.{receiving-room}
 use Rattle.target_session.proofs.connection.Connection.take.Goals as goal
 
 pub receive-requires-clause-within : goal.receive-requires-clause-within

@@ -26,7 +26,7 @@ use Rattle.scsi_target.specs.declared.connection_state.ConnectionState.{Connecti
 use Rattle.scsi_target.specs.declared.connection_state.ConnectionState.TheVariants as held
 use Rattle.scsi_target.proofs.Places.{within, unit_there, units_with, rooms_stay, place_set}
 use Rattle.scsi_target.proofs.Devices.{device_set, device_relinked}
-use Rattle.scsi_target.proofs.Moving.{free_busy}
+use Rattle.scsi_target.proofs.DeviceCalls.{free_busy}
 
 -- the candidates of a unit that keeps the rules are its tasks
 pub few : (n : ℕ) (q : QueuedUnit) (breaks : Bool) → q.rig.rogue ≡ breaks → breaks ≡ false → n < candidates (unit_of q) → n < length q.tasks.tasks

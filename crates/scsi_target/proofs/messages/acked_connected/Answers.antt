@@ -7,7 +7,7 @@ use Rattle.scsi_target.specs.TaskExits.{exit_of}
 use Rattle.scsi_target.specs.Views.{device_of}
 use Rattle.scsi_target.specs.declared.connection_state.ConnectionState.TheVariants as held
 use Rattle.scsi_target.proofs.Acks.{acked_parts, acked_stays, device_on}
-use Rattle.scsi_target.proofs.messages.hear.Goals as goal
+use Rattle.scsi_target.proofs.messages.acked_connected.Goals as goal
 
 pub returns-in-Some-clause-state : goal.returns-in-Some-clause-state
 returns-in-Some-clause-state c =

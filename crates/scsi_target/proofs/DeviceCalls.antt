@@ -104,7 +104,7 @@ can_of d slots link c q m v e s h =
     let p = of_work d slots link c (λ t. May t m) v e h in
     subst (λ x. IsThere x (λ u. CanOf u c m)) (unit_there slots c.lun q s) p.1
 
-busy_same : (old new : Connection) (k : ℕ) → new.lun ≡ old.lun → busy (held.TaskConnected new) k ≡ busy (held.TaskConnected old) k
+pub busy_same : (old new : Connection) (k : ℕ) → new.lun ≡ old.lun → busy (held.TaskConnected new) k ≡ busy (held.TaskConnected old) k
 busy_same old new k l = rw l refl
 
 -- a connection of the same task, which is sound where the old one is

@@ -1,7 +1,6 @@
 -- What a move makes of the device.
 use Rattle.std.proofs.Common.{◌≡◌, ℕ, suc, ◌+◌, ◌≤◌, ◌<◌, Bool, true, false, List, [], ◌∷◌, refl, ap, arith, sym, ◌∙◌, Option, Some, None, nat_le, length, slice_set, subst, map, if◌then◌else◌}
 use Rattle.std.specs.Prelude.{slice_get}
-use Rattle.std.proofs.lemmas.Bool.{le-leb}
 use Rattle.std.proofs.lemmas.Bool.Decides.{nat_tests}
 use Rattle.std.proofs.lemmas.List.{length-map}
 use Rattle.std.proofs.lemmas.List.Elements.{All-weaker}
@@ -25,18 +24,10 @@ use Rattle.scsi_target.specs.Views.{link_of, device_of, busy, IsSlot, IsConnecte
 use Rattle.scsi_target.specs.declared.connection_state.ConnectionState.{ConnectionState as HeldState}
 use Rattle.scsi_target.specs.declared.connection_state.ConnectionState.TheVariants as held
 use Rattle.scsi_target.proofs.Places.{within, unit_there, units_with, units_stay, rooms_stay, room_there, place_set}
-use Rattle.target_law.proofs.Rooms.{lie_within-set, and-of}
+use Rattle.target_law.proofs.Rooms.{lie_within-set}
 use Rattle.scsi_target.proofs.Devices.{device_set, device_relinked}
-
--- each log lies within its room
-lie_by : (slots : List (Option QueuedUnit)) → ((place : ℕ) (q : QueuedUnit) → slice_get slots place ≡ Some (Some q) → length q.core.log.entries ≤ q.core.log.room) → lie_within (map slot_of slots) (map room_of slots) ≡ true
-unfolding lie_within
-lie_by [] h = refl
-lie_by (None ∷ qs) h = lie_by qs (λ i q e. h (suc i) q e)
-lie_by (Some q ∷ qs) h = and-of _ _ _ (le-leb (length q.core.log.entries) q.core.log.room (h 0 q refl)) (lie_by qs (λ i p e. h (suc i) p e))
-
-pub device_lies : (count : ℕ) (slots : List (Option QueuedUnit)) (link : HeldState) (breaks : Bool) → IsDevice count slots link breaks → lie_within (map slot_of slots) (map room_of slots) ≡ true
-device_lies count slots link breaks i = lie_by slots (λ k q e. (i.slots_are k q e).log)
+use Rattle.scsi_target.proofs.DeviceCalls.{busy_same}
+use Rattle.scsi_target.proofs.Parted.{device_lies}
 
 -- the device after a call that changes one unit, which decides by its own room
 abbrev pub set_where : Bool → List (Option QueuedUnit) → HeldState → ℕ → QueuedUnit → ConnectionState → DeviceState
@@ -113,9 +104,6 @@ slot_moved breaks old new place q core i b w l = record {
   waiting = All-weaker (IsWaiting q.core.lun) (IsWaiting core.lun) w q.tasks.tasks i.waiting;
   log = l;
 }
-
-busy_same : (old new : Connection) (k : ℕ) → new.lun ≡ old.lun → busy (held.TaskConnected new) k ≡ busy (held.TaskConnected old) k
-busy_same old new k l = rw l refl
 
 moved_by : (count : ℕ) (slots : List (Option QueuedUnit)) (breaks : Bool) (c : Connection) (q : QueuedUnit) (s : Session) (b : Bool) (n : Connection) → IsDevice count slots (held.TaskConnected c) breaks
     → slice_get slots c.lun ≡ Some (Some q) → has_room q s ≡ b → n.lun ≡ c.lun → IsConnected breaks c q
