@@ -7,4 +7,8 @@ pub mod Numbering
 pub mod Callers
 pub mod Extending
 pub mod OneRun
+pub mod Testing
+pub mod Idle
+pub mod Recording
+pub mod Keeping
 pub mod Opens

@@ -8,7 +8,7 @@ use Rattle.desk_law.specs.Desk.{ticket, is_freed}
 use Rattle.world_law.specs.declared.reply.Reply.{Reply}
 use Rattle.world_law.specs.World.{BenchSetting, World}
 use Rattle.world_law.specs.Opening.{opened}
-use Rattle.world_law.specs.Runs.{Moment, IsRun, last, built, accepted}
+use Rattle.world_law.specs.Runs.{Moment, Steps, IsRun, last, built, accepted}
 use Rattle.world_law.specs.Laws.{is_report_of, NumbersTickets}
 use Rattle.world_law.specs.Lines.{drained}
 use Rattle.world_law.proofs.Effects.{IsTold, Counted, OneReport, Effect, not-freed-within, effect}
@@ -153,3 +153,9 @@ pub reports_all : (g : BenchSetting) (ms : List Moment) (t : ℕ) → IsRun g (o
 reports_all g ms t r d l =
     let x : NumbersTickets (opened g) ms = numbers_tickets g ms r in
     x.all t l (ap not (drained-freed g (last (opened g) ms) d t))
+
+pub freed_stays_so : (g : BenchSetting) (old : World) (m : Moment) (t : ℕ) → Steps g old m → t < length old.desk.tickets → not (is_freed (ticket old.desk t).stage) ≡ false
+    → not (is_freed (ticket m.after.desk t).stage) ≡ false
+freed_stays_so g old m t h l f =
+    let x : Effect g m.entry.caller old m.reply m.after = effect g old m.entry.caller m.entry.step m.reply m.after h.enabled h.does in
+    ap not (freed_stays m.entry.caller old.desk.tickets m.after.desk.tickets m.after.reports x.tickets t l (was-freed (is_freed (ticket old.desk t).stage) f))

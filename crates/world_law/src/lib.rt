@@ -7,8 +7,8 @@ mod owner;
 mod reply;
 
 pub use laws::{
-    longer_works, one_moment_longer, one_run, opens_memory, others_leave, reports_accepted,
-    rests_drained,
+    enabled_or_not, longer_works, one_answer, one_moment_longer, one_run, opens_memory,
+    others_leave, reports_accepted, rests_drained, tickets_keep,
 };
 pub use owner::Owner;
 pub use reply::{Decided, Reply, Seen, Stop};
