@@ -19,7 +19,7 @@ use Rattle.cdb_codec.specs.Blocks.{cdb_of}
 use Rattle.cdb_codec.specs.Forms.{need_of}
 use Rattle.one_target.proofs.Slots.{slots, unit_at-slots, with_unit-slots}
 use Rattle.one_target.specs.Holding.{is_usual, is_alone, is_of_one, is_said, awaits_ack, IsHeld}
-use Rattle.one_target.proofs.Keeping.{IsKept, alone-of, kept-acted, kept-messaged, kept-acked, kept-begun, kept-linked, kept-sent, kept-took, kept-selected, zero-of}
+use Rattle.one_target.proofs.MoveLaws.{IsKept, alone-of, kept-acted, kept-messaged, kept-acked, kept-begun, kept-linked, kept-sent, kept-took, kept-selected, zero-of}
 
 pub kept-of : (b : BusState) → IsHeld b → IsKept b.target
 kept-of b h = record { alone = alone-of b.target.units h.alone; of_one = h.of_one }
@@ -118,11 +118,11 @@ same_log-fits u v [] e f = rw e f
 same_log-fits u v (n ∷ ns) e f = rw e f
 
 -- a task leaves the bus
-pub record Left (t t' : Target) (rooms : List ℕ) : Type 0 where
+pub record HasLeftBus (t t' : Target) (rooms : List ℕ) : Type 0 where
   pub kept : IsKept t'
   pub fits : lie_within t.units rooms ≡ true → lie_within t'.units rooms ≡ true
 
-pub left-is : (t t' : Target) (rooms : List ℕ) → IsKept t → LeavesBus t t' → Left t t' rooms
+pub left-is : (t t' : Target) (rooms : List ℕ) → IsKept t → LeavesBus t t' → HasLeftBus t t' rooms
 left-is t t' rooms k m =
     let w : LogicalUnit = k.alone.unit in
     let c : Connection = m.connection in
@@ -141,17 +141,17 @@ left-is t t' rooms k m =
           ap (λ (us : List (Option LogicalUnit)). lie_within us rooms) units' ∙ same_log-fits w left rooms (ap (λ (x : LogicalUnit). x.log) unit_is) f0;
     }
 
-settles-left : (still : Bool) (t t' : Target) (rooms : List ℕ) → IsKept t → SettlesWhere still t t' → Left t t' rooms
+settles-left : (still : Bool) (t t' : Target) (rooms : List ℕ) → IsKept t → SettlesWhere still t t' → HasLeftBus t t' rooms
 settles-left true t t' rooms k m = left-is t t' rooms k m
 settles-left false t t' rooms k m = record { kept = subst IsKept (sym m) k; fits = λ f. ap (λ (x : Target). lie_within x.units rooms) m ∙ f }
 
-acts-left : (rooms : List ℕ) (word : ℕ) (t t' : Target) (c : Connection) → IsKept t → Acts rooms word t c t' → Left t t' rooms
+acts-left : (rooms : List ℕ) (word : ℕ) (t t' : Target) (c : Connection) → IsKept t → Acts rooms word t c t' → HasLeftBus t t' rooms
 acts-left rooms word t t' c k a =
     let after : Target = with_room rooms t (target_acted t a.move) in
-    let l : Left after t' rooms = settles-left (is_to_choose after.link) after t' rooms (kept-with_room rooms t (target_acted t a.move) k (kept-acted t a.move k)) a.after in
+    let l : HasLeftBus after t' rooms = settles-left (is_to_choose after.link) after t' rooms (kept-with_room rooms t (target_acted t a.move) k (kept-acted t a.move k)) a.after in
     record { kept = l.kept; fits = λ f. l.fits (with_room-fits rooms t (target_acted t a.move) f) }
 
-chooses-left : (l : ConnectionState) (atn : Bool) (rooms : List ℕ) (word : ℕ) (t t' : Target) → is_of_one l ≡ true → IsKept t → Chooses l atn rooms word t t' → Left t t' rooms
+chooses-left : (l : ConnectionState) (atn : Bool) (rooms : List ℕ) (word : ℕ) (t t' : Target) → is_of_one l ≡ true → IsKept t → Chooses l atn rooms word t t' → HasLeftBus t t' rooms
 chooses-left (TaskConnected c) true rooms word t t' e k m = record { kept = subst IsKept (sym m) (kept-linked t (asked_by (TaskConnected c)) e k); fits = λ f. ap (λ (x : Target). lie_within x.units rooms) m ∙ f }
 chooses-left (TaskConnected c) false rooms word t t' e k m = acts-left rooms word t t' c k m
 chooses-left BusFree atn rooms word t t' e k m = absurd m
@@ -159,7 +159,7 @@ chooses-left (Selected heard) atn rooms word t t' e k m = absurd m
 chooses-left (TakingCommand n taken) atn rooms word t t' e k m = absurd m
 chooses-left (RogueConnected s n) atn rooms word t t' e k m = absurd m
 
-chooses_where-left : (to_choose atn : Bool) (rooms : List ℕ) (word : ℕ) (t t' : Target) → IsKept t → ChoosesWhere to_choose atn rooms word t t' → Left t t' rooms
+chooses_where-left : (to_choose atn : Bool) (rooms : List ℕ) (word : ℕ) (t t' : Target) → IsKept t → ChoosesWhere to_choose atn rooms word t t' → HasLeftBus t t' rooms
 chooses_where-left true atn rooms word t t' k m = chooses-left t.link atn rooms word t t' k.of_one k m
 chooses_where-left false atn rooms word t t' k m = record { kept = subst IsKept (sym m) k; fits = λ f. ap (λ (x : Target). lie_within x.units rooms) m ∙ f }
 
@@ -215,7 +215,7 @@ waiting-turns b word t' w m = rw (waiting-chooses b.target w) at m
 
 goes-held : (b b' : BusState) (word : ℕ) → IsHeld b → GoesOn word b b' → IsHeld b'
 goes-held b b' word h g =
-    let l : Left b.target g.target b.rooms = chooses_where-left (is_to_choose b.target.link) b.atn b.rooms word b.target g.target (kept-of b h) g.chooses in
+    let l : HasLeftBus b.target g.target b.rooms = chooses_where-left (is_to_choose b.target.link) b.atn b.rooms word b.target g.target (kept-of b h) g.chooses in
     let f : lie_within g.target.units b.rooms ≡ true = l.fits h.fits in
     let a : b.ack ≡ true → awaits_ack g.target.link ≡ true = λ e.
     ap (λ (t : Target). awaits_ack t.link) (waiting-turns b word g.target (waits b.target.link (h.acknowledges e)) g.chooses) ∙ h.acknowledges e in

@@ -17,9 +17,9 @@ use Rattle.straight_run.specs.Opening.{cdb}
 use Rattle.one_target.specs.Bus.{BusState, live_ticket, moves, if_fits, with_room, becomes, after_atn, after_ack}
 use Rattle.target_law.specs.Devices.{lie_within}
 use Rattle.one_target.proofs.Slots.{slots, unit_at-slots, with_unit-slots, slots-fit}
-use Rattle.one_target.proofs.Asking.{selects, sets_atn, clears_ack, takes, gives, leaves, asks_shown}
-use Rattle.one_target.proofs.Choosing.{connected, working}
-use Rattle.one_target.proofs.Carrying.{bus}
+use Rattle.one_target.proofs.CallAnswers.{selects, sets_atn, clears_ack, takes, gives, leaves, asks_shown}
+use Rattle.one_target.proofs.Choices.{connected, working}
+use Rattle.one_target.proofs.DataBytes.{bus}
 use Rattle.one_target.proofs.BlockBytes.{status-below}
 
 -- COMMAND COMPLETE is acknowledged

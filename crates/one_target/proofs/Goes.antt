@@ -26,9 +26,9 @@ use Rattle.one_target.specs.Bus.{BusState, live_ticket, moves, Turns}
 use Rattle.one_target.specs.Opening.{one_unit}
 use Rattle.one_target.specs.Reading.{Ended, read_log, refused_log}
 use Rattle.one_target.proofs.Slots.{slots, unit_at-slots, opened-slots}
-use Rattle.one_target.proofs.Asking.{clears_ack, asks_for, asks_shown}
-use Rattle.one_target.proofs.Choosing.{working, turns-go}
-use Rattle.one_target.proofs.Carrying.{bus, data_in}
+use Rattle.one_target.proofs.CallAnswers.{clears_ack, asks_for, asks_shown}
+use Rattle.one_target.proofs.Choices.{working, turns-go}
+use Rattle.one_target.proofs.DataBytes.{bus, data_in}
 use Rattle.one_target.proofs.Chain.{cdb_front, telling, tells, begins_with}
 use Rattle.one_target.proofs.OneRead.{read-cdb}
 use Rattle.one_target.proofs.Sessions.{Calm, unit_with, task_of, takes_last, done, sending, goes_reading, moved, read_told, goes_told, refused_told, goes_refused, ended_with, read_closed, refused_closed}

@@ -5,7 +5,7 @@ use Rattle.bench_words.specs.Memory.{put_bytes, put_word, bytes_at, IsZero}
 use Rattle.bench_words.proofs.Cells.{put_bytes-nil}
 use Rattle.bench_words.proofs.MemoryLaws.{length-put_bytes, byte_outside, byte_inside, bytes_apart, bytes_same}
 use Rattle.straight_run.specs.Opening.{put_words, table, cdb, laid}
-use Rattle.straight_run.proofs.Laying.{length-put_words}
+use Rattle.straight_run.proofs.LaidWords.{length-put_words}
 use Rattle.one_target.specs.Reporting.{submitted}
 
 -- words that lie before a range leave it

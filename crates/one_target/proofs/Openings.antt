@@ -10,7 +10,7 @@ use Rattle.one_target.specs.Bus.{bus_of}
 use Rattle.one_target.specs.Holding.{is_usual, IsHeld}
 use Rattle.one_target.specs.Opening.{one_unit, IsOpened}
 use Rattle.one_target.proofs.Slots.{slots, unit_at-slots, opened-slots, slots-fit}
-use Rattle.one_target.proofs.Keeping.{IsKept}
+use Rattle.one_target.proofs.MoveLaws.{IsKept}
 use Rattle.one_target.proofs.Between.{held}
 
 opened-alone : (r : RigUnit) → r.lun ≡ 0 → is_usual r ≡ true → (t : Target) → t ≡ target_opened (r ∷ []) → IsKept t

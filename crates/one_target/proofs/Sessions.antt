@@ -21,8 +21,8 @@ use Rattle.target_law.specs.Lawful.{NamesOf, refused_so_far}
 use Rattle.target_law.specs.Beginning.{begins, target_took}
 use Rattle.one_target.specs.Bus.{live_ticket}
 use Rattle.one_target.proofs.Slots.{slots, slots-fit}
-use Rattle.one_target.proofs.Choosing.{connected, working, only_go, Goes}
-use Rattle.one_target.proofs.Carrying.{at_place}
+use Rattle.one_target.proofs.Choices.{connected, working, only_go, Goes}
+use Rattle.one_target.proofs.DataBytes.{at_place}
 
 -- a unit that neither leaves the bus nor refuses, with a place for a task
 pub record Calm (r : RigUnit) : Type 0 where

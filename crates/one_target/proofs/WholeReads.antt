@@ -13,7 +13,7 @@ use Rattle.one_target.specs.Opening.{one_unit, one_plain, IsOpened}
 use Rattle.one_target.specs.Reading.{Ended, after_read, block_at, read_log, refused_log, Reads, Checks}
 use Rattle.one_target.proofs.Slots.{slots}
 use Rattle.one_target.proofs.BlockBytes.{bytes-filled_disk, bytes-blocks_at}
-use Rattle.one_target.proofs.Carrying.{bus}
+use Rattle.one_target.proofs.DataBytes.{bus}
 use Rattle.one_target.proofs.OneRead.{performed, wants-there, wants-past, holds-there, holds-past, length-block}
 use Rattle.one_target.proofs.Sessions.{unit_with}
 use Rattle.one_target.proofs.Goes.{read_answers, refusal_answers, ended-slots, opened-bus, one-lun, one-blocks, one-quiet, one-calm, length-opened, blocks-opened}

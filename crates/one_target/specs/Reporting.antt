@@ -48,7 +48,7 @@ report_with status bytes = record {
   sense = [];
 }
 
--- the report that host memory holds when the straight script has ended: the status lies at 10014h, the buffer at 200000h
+-- the report that host memory holds when the straight script has ended: the status lies at 0x10014, the buffer at 0x200000
 abbrev pub report_in : List ℕ → Report
 report_in memory = report_with (slice_index memory 0x10014) (bytes_at memory 0x200000 512)
 

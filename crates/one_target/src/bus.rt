@@ -82,7 +82,7 @@ impl OneBus {
 
 impl OneBus {
     /// The message is whole, and acts, where MSG_OUT is shown.
-    fn hear(&mut self)
+    fn end_message(&mut self)
         ensures { self.new ≡ messaged_where (is_message (link_phase self.old.target.link)) self.old }
     {
         if !is_message(self.device.shown()) {
@@ -213,7 +213,7 @@ impl Bus for OneBus {
 
     fn set_atn(&mut self, on: bool) {
         if !on {
-            self.hear();
+            self.end_message();
         }
         self.atn = on;
     }

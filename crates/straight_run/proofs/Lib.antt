@@ -1,5 +1,5 @@
-pub mod Laying
-pub mod Going
-pub mod Answering
-pub mod Reading
-pub mod Stopping
+pub mod LaidWords
+pub mod Progress
+pub mod BusAnswers
+pub mod TenSteps
+pub mod Stops

@@ -28,8 +28,8 @@ abbrev pub words_from : ℕ → List Op → List (ℕ × ℕ)
 words_from a [] = []
 words_from a (op ∷ ops) = (a, (row op).first) ∷ (a + 4, (row op).second) ∷ words_from (a + 8) ops
 
--- The block at 10000h, without its CDB: START and RESTART, both data pointers, STATUS, GATE; the entries of message,
--- command and status, count and address; entry 0 of the segments, 512 bytes at 200000h; the message C0h 20h 00h.
+-- The block at 0x10000, without its CDB: START and RESTART, both data pointers, STATUS, GATE; the entries of message,
+-- command and status, count and address; entry 0 of the segments, 512 bytes at 0x200000; the message 0xC0 0x20 0x00.
 abbrev pub block : List (ℕ × ℕ)
 block =
     (0x10000, 0x60) ∷ (0x10004, 0x128) ∷ (0x10008, 0x338) ∷ (0x1000c, 0x338) ∷ (0x10014, 0xff) ∷ (0x1001c, 0x1c0) ∷

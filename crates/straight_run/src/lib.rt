@@ -112,7 +112,7 @@ fn run<B: Bus>(words: &mut Words, regs: &mut Regs, bus: &mut B)
 /// Runs a READ(10) of the one block at `lba` by the straight script: lays 4 MiB of memory and the registers, and
 /// steps the chip with the word 0 over this bus until it is stopped, after at most ten steps.
 ///
-/// Over a bus that answers the calls of a read, the data lies at 200000h and the status at 10014h afterwards, and the
+/// Over a bus that answers the calls of a read, the data lies at 0x200000 and the status at 0x10014 afterwards, and the
 /// cause is vector 7; likewise where the target sends no data and a status alone.
 ///
 /// Its one error is want of memory, which leaves the bus as before.

@@ -1,7 +1,7 @@
 pub mod Decimals
 pub mod Exact
 pub mod OneCause
-pub mod Printing
+pub mod PrintedLines
 pub mod Buffers
 pub mod OneTexts
 pub mod OneCommand

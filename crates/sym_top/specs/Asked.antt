@@ -1,4 +1,4 @@
--- The program's command, as the definitions' one.
+-- The program's command, as the definitions' one. No public contract rests on these.
 use Rattle.sym_top.specs.CommandLine.{Command, one, asm, list}
 use Rattle.sym_top.specs.declared.commands.Command.{Command as Read}
 use Rattle.sym_top.specs.declared.commands.Command.TheVariants.{One, Asm, List}

@@ -1,4 +1,4 @@
--- How a command's job is made: the files are loaded and read, and nothing is stored or printed yet.
+-- How a command's job is made: the files are loaded and read, and nothing is stored or printed yet. No public contract rests on these.
 use Rattle.std.specs.Prelude.{◌≡◌, ℕ, List, length, Some, None, IsSome, Result, Ok, Err}
 use Rattle.scripts_asm.specs.declared.assembling.Image.{Image}
 use Rattle.scripts_asm.specs.declared.assembling.AsmFault.{AsmFault}

@@ -2,7 +2,7 @@ use Rattle.std.proofs.Common.{◌∙◌, ℕ, sym, ap, length, List}
 use Rattle.std.proofs.lemmas.List.{drop_all}
 use Rattle.bench_words.proofs.MemoryLaws.{length-put_word}
 use Rattle.straight_run.specs.Opening.{put_words}
-use Rattle.straight_run.proofs.Laying.{put_words_step, put_words-nil, all_fit_step}
+use Rattle.straight_run.proofs.LaidWords.{put_words_step, put_words-nil, all_fit_step}
 use Rattle.straight_run.proofs.lay_words.Goals as goal
 
 pub loop-address-preserved : goal.loop-address-preserved

@@ -1,6 +1,6 @@
 use Rattle.std.proofs.Common.{add-one}
 use Rattle.straight_run.specs.Steps.{last, next}
-use Rattle.straight_run.proofs.Going.{begins, step_on}
+use Rattle.straight_run.proofs.Progress.{begins, step_on}
 use Rattle.straight_run.proofs.run.Goals as goal
 
 pub loop-i-init : goal.loop-i-init

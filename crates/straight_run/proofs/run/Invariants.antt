@@ -1,6 +1,6 @@
 use Rattle.chip_step.specs.Chip.{Chip}
 use Rattle.straight_run.specs.Steps.{Steps}
-use Rattle.straight_run.proofs.Going.{Going}
+use Rattle.straight_run.proofs.Progress.{Going}
 use Rattle.straight_run.proofs.run.Given as goal
 
 abbrev pub invariant-loop-i : goal.invariant-loop-i

@@ -1,7 +1,7 @@
 use Rattle.std.proofs.Common.{refl}
 use Rattle.chip_step.specs.Chip.{state}
-use Rattle.straight_run.proofs.Reading.{read_goes, status_goes}
-use Rattle.straight_run.proofs.Stopping.{Steps-stops}
+use Rattle.straight_run.proofs.TenSteps.{read_goes, status_goes}
+use Rattle.straight_run.proofs.Stops.{Steps-stops}
 use Rattle.straight_run.proofs.straight.Goals as goal
 
 pub returns-clause-ran : goal.returns-clause-ran

@@ -3,7 +3,7 @@ use Rattle.target_law.specs.Devices.{DeviceState}
 use Rattle.one_target.specs.Bus.{Settles}
 use Rattle.one_target.specs.Holding.{IsHeldDevice}
 use Rattle.target_law.specs.Calls.{target_acted}
-use Rattle.one_target.proofs.Calling.{acted-held, acting, act-rooms}
+use Rattle.one_target.proofs.DeviceCalls.{acted-held, acting, act-rooms}
 use Rattle.one_target.proofs.turn.act.Goals as goal
 
 pub settle-requires : goal.settle-requires

@@ -1,4 +1,4 @@
-use Rattle.one_target.proofs.Calling.{lawful-link}
+use Rattle.one_target.proofs.DeviceCalls.{lawful-link}
 use Rattle.one_target.proofs.turn.choose.Goals as goal
 
 pub ask_message-requires : goal.ask_message-requires

@@ -1,5 +1,5 @@
 use Rattle.std.proofs.Common.{sym, ◌∙◌}
-use Rattle.one_target.proofs.Calling.{lawful-link, settled}
+use Rattle.one_target.proofs.DeviceCalls.{lawful-link, settled}
 use Rattle.one_target.proofs.turn.settle.Goals as goal
 
 pub ask_message-requires : goal.ask_message-requires

@@ -1,7 +1,7 @@
 use Rattle.std.proofs.Common.{arith}
 use Rattle.std.proofs.lemmas.Grind.{common_steps}
 use Rattle.one_target.specs.Reporting.{report_in}
-use Rattle.one_target.proofs.Fitting.{reported, memory-size}
+use Rattle.one_target.proofs.ReportFit.{reported, memory-size}
 use Rattle.sym_top.proofs.OneTexts.{one-text}
 use Rattle.sym_top.proofs.one.one.Goals as goal
 

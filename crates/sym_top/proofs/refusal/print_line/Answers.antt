@@ -1,4 +1,4 @@
-use Rattle.sym_top.proofs.Printing.{prints_as}
+use Rattle.sym_top.proofs.PrintedLines.{prints_as}
 use Rattle.sym_top.proofs.refusal.print_line.Goals as goal
 
 pub returns : goal.returns

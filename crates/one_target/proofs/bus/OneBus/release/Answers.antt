@@ -1,7 +1,7 @@
 use Rattle.std.proofs.Common.{◌≡◌, ◌&&◌, false, ◌∙◌, ap, sym, subst}
 use Rattle.one_target.specs.Bus.{bus_of, after_ack}
 use Rattle.one_target.specs.Holding.{IsHeld}
-use Rattle.one_target.proofs.Calling.{released-is}
+use Rattle.one_target.proofs.DeviceCalls.{released-is}
 use Rattle.one_target.proofs.Between.{acked-held}
 use Rattle.one_target.proofs.bus.OneBus.release.Goals as goal
 

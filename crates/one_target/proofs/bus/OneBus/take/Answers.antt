@@ -2,7 +2,7 @@ use Rattle.std.proofs.Common.{◌≡◌, ◌&&◌, ◌∙◌, ap, sym, subst, re
 use Rattle.target_law.specs.Calls.{link_takes}
 use Rattle.one_target.specs.Bus.{BusState, bus_of, ticket_at, taken_where}
 use Rattle.one_target.specs.Holding.{IsHeld}
-use Rattle.one_target.proofs.Calling.{untaken-is, taken-is}
+use Rattle.one_target.proofs.DeviceCalls.{untaken-is, taken-is}
 use Rattle.one_target.proofs.Between.{taken-held}
 use Rattle.one_target.proofs.bus.OneBus.take.Goals as goal
 

@@ -1,6 +1,6 @@
 use Rattle.std.proofs.Common.{◌&&◌, subst}
 use Rattle.one_target.specs.Bus.{BusState, bus_of, Turns}
-use Rattle.one_target.proofs.Calling.{device-held, turned}
+use Rattle.one_target.proofs.DeviceCalls.{device-held, turned}
 use Rattle.one_target.proofs.Between.{turns-held}
 use Rattle.one_target.proofs.bus.OneBus.turn.Goals as goal
 

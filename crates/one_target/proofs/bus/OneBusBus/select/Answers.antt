@@ -1,5 +1,5 @@
 use Rattle.one_target.specs.Bus.{bus_of}
-use Rattle.one_target.proofs.Calling.{is-present, selected-held}
+use Rattle.one_target.proofs.DeviceCalls.{is-present, selected-held}
 use Rattle.one_target.proofs.Between.{kept-of}
 use Rattle.one_target.proofs.bus.OneBusBus.select.Goals as goal
 

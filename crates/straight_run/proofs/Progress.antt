@@ -22,7 +22,7 @@ use Rattle.chip_step.specs.declared.outcome.StepEnd.TheVariants.{Ran, Stopped}
 use Rattle.chip_step.proofs.Frame.{Goes, Clears-goes, Waits-goes, Selects-goes, Move-goes, MovesBy-goes, Jumps-goes}
 use Rattle.chip_step.proofs.Made.{ChipStep-does}
 use Rattle.straight_run.specs.Opening.{table, put_words, cdb, Opens}
-use Rattle.straight_run.proofs.Laying.{looked, word_at-put_words, length-put_words}
+use Rattle.straight_run.proofs.LaidWords.{looked, word_at-put_words, length-put_words}
 
 -- the words that the script reads for itself
 abbrev pub IsKept : ℕ → Type 0

@@ -16,7 +16,7 @@ use Rattle.unit_law.proofs.Views.{with_at-same}
 use Rattle.chip_step.specs.Chip.{Chip}
 use Rattle.straight_run.specs.Reading.{GoesThrough}
 use Rattle.straight_run.specs.Steps.{FromOpening}
-use Rattle.straight_run.proofs.Reading.{read_goes, status_goes}
+use Rattle.straight_run.proofs.TenSteps.{read_goes, status_goes}
 use Rattle.one_target.specs.Bus.{BusState, moves}
 use Rattle.one_target.specs.Opening.{one_plain, IsOpened}
 use Rattle.one_target.specs.Reading.{Ended, after_read, block_at, read_log, refused_log}

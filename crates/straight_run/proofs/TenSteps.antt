@@ -1,5 +1,5 @@
 -- The ten steps of the straight script over a bus that answers them: it goes through.
-use Rattle.std.proofs.Common.{◌≡◌, ℕ, pos, zero, suc, ◌+◌, ◌*◌, ◌/◌, ◌%◌, ◌<◌, ◌≤◌, ◌⊎◌, inl, inr, Bool, true, false, nat_le, List, [], ◌∷◌, ◌++◌, length, get_or, refl, sym, ap, ◌∙◌, arith, Option, Some, MatchBool, lit<, lit≤}
+use Rattle.std.proofs.Common.{◌≡◌, ℕ, pos, zero, suc, ◌+◌, ◌*◌, ◌/◌, ◌%◌, ◌<◌, ◌≤◌, ◌⊎◌, inl, inr, Bool, true, false, nat_le, List, [], ◌∷◌, ◌++◌, length, get_or, refl, sym, ap, ◌∙◌, arith, Option, Some, lit<, lit≤}
 use Rattle.bench_words.specs.Memory.{word_at, put_bytes, put_word}
 use Rattle.bench_words.proofs.Cells.{put_bytes-nil}
 use Rattle.bench_words.proofs.MemoryLaws.{byte_outside, byte_inside}
@@ -28,13 +28,13 @@ use Rattle.chip_step.specs.declared.outcome.StepEnd.TheVariants.{Ran, Stopped}
 use Rattle.straight_run.specs.Opening.{table, script, words_from, put_words, cdb, laid, Opens}
 use Rattle.straight_run.specs.Steps.{Steps, last, next, FromOpening}
 use Rattle.straight_run.specs.Reading.{Answers, outs, ins, asks, beginning, ending, read_calls, status_calls, GoesThrough}
-use Rattle.straight_run.proofs.Laying.{looked, length-put_words, put_words-append, put_words-one}
-use Rattle.straight_run.proofs.Going.{Going, Holds, IsKept, begins, made_at, next_at, step_on, entry, holds_0, holds_1, holds_2, holds_3, holds_4, holds_5, holds_6, holds_7, holds_8, holds_9}
-use Rattle.straight_run.proofs.Answering as answering
-use Rattle.straight_run.proofs.Answering.{Begins, Done, Shows}
+use Rattle.straight_run.proofs.LaidWords.{looked, length-put_words, put_words-append, put_words-one}
+use Rattle.straight_run.proofs.Progress.{Going, Holds, IsKept, begins, made_at, next_at, step_on, entry, holds_0, holds_1, holds_2, holds_3, holds_4, holds_5, holds_6, holds_7, holds_8, holds_9}
+use Rattle.straight_run.proofs.BusAnswers as answering
+use Rattle.straight_run.proofs.BusAnswers.{Begins, Done, Shows, by_bool}
 
 -- the message and the CDB in memory
-pub record Told (lba : ℕ) (m : List ℕ) : Type 0 where
+pub record HasMessageAndCdb (lba : ℕ) (m : List ℕ) : Type 0 where
   pub message : (i : ℕ) → i < 3 → get_or m (0x100e0 + i) 0 ≡ get_or (0xc0 ∷ 0x20 ∷ 0 ∷ []) i 0
   pub command : (i : ℕ) → i < 10 → get_or m (0x100f0 + i) 0 ≡ get_or (cdb lba) i 0
 
@@ -72,8 +72,8 @@ laid_message z i s h =
 before_cdb : (i : ℕ) → i < 3 → (0x100e0 + i < 0x100f0) ⊎ (0x100fa ≤ 0x100e0 + i)
 before_cdb i h = inl (omega arith)
 
-told : (lba : ℕ) (z : List ℕ) → length z ≡ 4194304 → Told lba (laid lba z)
-told lba z s =
+has_message_and_cdb : (lba : ℕ) (z : List ℕ) → length z ≡ 4194304 → HasMessageAndCdb lba (laid lba z)
+has_message_and_cdb lba z s =
     let base : List ℕ = put_words z table in
     let size : length base ≡ 4194304 = length-put_words z table ∙ s in
     record {
@@ -84,10 +84,6 @@ told lba z s =
 four : (m : List ℕ) (d : ℕ) → length m ≡ 4194304 → d ≡ 0x10000 → place_of m d (pos 0x18) 4 ≡ Some 0x10018
 unfolding place_of
 four m d s e = rw (e, s) refl
-
-by_bool : (P Q C : Type 0) (b : Bool) → MatchBool b P Q → (b ≡ true → P → C) → (b ≡ false → Q → C) → C
-by_bool P Q C true h f g = f refl h
-by_bool P Q C false h f g = g refl h
 
 no_data : (m : List ℕ) (status : ℕ) (new : List ℕ) → new ≡ put_bytes (put_bytes m 0x10014 (status ∷ [])) 0x1010 (0 ∷ []) → new ≡ put_bytes (put_bytes (put_bytes m 0x200000 []) 0x10014 (status ∷ [])) 0x1010 (0 ∷ [])
 no_data m status new e = e ∙ ap (λ (x : List ℕ). put_bytes (put_bytes x 0x10014 (status ∷ [])) 0x1010 (0 ∷ [])) (sym (put_bytes-nil m 0x200000))
@@ -124,7 +120,7 @@ module _ {B : Type 0} (moves : B → Event → B → Type 0) (P : B → Type 0) 
       let count_is : word_at m (0x10000 + o) % 16777216 ≡ count = ap (λ (x : ℕ). x % 16777216) (g.words (0x10000 + o) m0 k0 ∙ l0) ∙ omega arith in
       rw (from_is, count_is) at by
 
-  -- 00 SELECT
+  -- 0x00 SELECT
   settled : (s : Settled) (w : ℕ) (es : List Event) (old : Chip B) (end : StepEnd) (new : Chip B) → w ≡ 0 → Answers moves (event.Select 0 0 Selected ∷ event.SetAtn true ∷ es) P old.bus → SettlesAs moves 0 s 0x48 (with_table w old.regs) old end new →
       (end ≡ Ran) × (new.memory ≡ old.memory) × (new.regs.dsp ≡ old.regs.dsp) × Answers moves es P new.bus
   settled Selected w es old end new z a s =
@@ -161,7 +157,7 @@ module _ {B : Type 0} (moves : B → Event → B → Type 0) (P : B → Type 0) 
   done n k a op m m' es old from end new g e h p r f q d =
       went n k m es old end new g r d.is (d.dsp_is ∙ f ∙ next_at n a op old g e h ∙ p) (d.memory_is ∙ q) d.rest
 
-  -- 08 the message
+  -- 0x08 the message
   tells : (n : ℕ) (m : List ℕ) (es : List Event) (old : Chip B) (end : StepEnd) (new : Chip B) → ((i : ℕ) → i < 3 → get_or m (0x100e0 + i) 0 ≡ get_or (0xc0 ∷ 0x20 ∷ 0 ∷ []) i 0) →
       At n 1 m (asks MsgOut (outs (0xc0 ∷ 0x20 ∷ 0 ∷ []) (event.SetAtn false ∷ es))) old → step.ChipStep moves 0 old end new → Went (suc n) 2 m es end new
   tells n m es old end new t a r =
@@ -173,7 +169,7 @@ module _ {B : Type 0} (moves : B → Event → B → Type 0) (P : B → Type 0) 
       (λ i h. ap (λ (x : List ℕ). get_or x (0x100e0 + i) 0) a.memory_is ∙ t i h) s.rest (λ bus x y. (x (event.SetAtn false) new.bus refl y).1) s.moved in
       done n 2 0x08 (MoveFrom (pos 0x20) 6) m old.memory es old (record from { bus = s.bus }) end new g a.dsp holds_1 refl r refl a.memory_is d
 
-  -- 10 the CDB
+  -- 0x10 the CDB
   commands : (n lba : ℕ) (m : List ℕ) (es : List Event) (old : Chip B) (end : StepEnd) (new : Chip B) → ((i : ℕ) → i < 10 → get_or m (0x100f0 + i) 0 ≡ get_or (cdb lba) i 0) →
       At n 2 m (asks Command (outs (cdb lba) es)) old → step.ChipStep moves 0 old end new → Went (suc n) 3 m es end new
   commands n lba m es old end new t a r =
@@ -185,7 +181,7 @@ module _ {B : Type 0} (moves : B → Event → B → Type 0) (P : B → Type 0) 
       (λ i h. ap (λ (x : List ℕ). get_or x (0x100f0 + i) 0) a.memory_is ∙ t i h) s.rest (λ bus x y. rw y x) s.moved in
       done n 3 0x10 (MoveFrom (pos 0x28) 2) m old.memory es old (record from { bus = s.bus }) end new g a.dsp holds_2 refl r refl a.memory_is d
 
-  -- 18 whether data comes
+  -- 0x18 whether data comes
   chosen : (decision : Option Bool) (t : Bool) (old : Chip B) (end : StepEnd) (new : Chip B) → decision ≡ Some t → TransfersAt decision Ran (record old.regs { dsp = 0x28 }) old end new → TransfersAt (Some t) Ran (record old.regs { dsp = 0x28 }) old end new
   chosen decision t old end new e d = rw e at d
 
@@ -207,7 +203,7 @@ module _ {B : Type 0} (moves : B → Event → B → Type 0) (P : B → Type 0) 
       let x : Ends Ran old.memory (record (after_fetch old).regs { dsp = 0x28 }) end new = chosen t.decision true (after_fetch old) end new e t.transfers in
       went n 5 m es old end new g r x.is (ap (λ (y : Regs). y.dsp) x.regs_are) (x.memory_is ∙ a.memory_is) s.rest
 
-  -- 20 the data
+  -- 0x20 the data
   reads : (n : ℕ) (bytes : List ℕ) (m : List ℕ) (es : List Event) (old : Chip B) (end : StepEnd) (new : Chip B) → length bytes ≡ 512 → At n 4 m (asks DataIn (ins bytes es)) old → step.ChipStep moves 0 old end new → Went (suc n) 5 (put_bytes m 0x200000 bytes) es end new
   reads n bytes m es old end new len a r =
       let g : Going n old.memory old.regs = a.going in
@@ -217,7 +213,7 @@ module _ {B : Type 0} (moves : B → Event → B → Type 0) (P : B → Type 0) 
       let d : Done moves P (put_bytes old.memory 0x200000 bytes) es (record from { bus = s.bus }) end new = answering.taken moves P 1 bytes es (record from { bus = s.bus }) end new refl refl refl (sym len) s.rest s.moved in
       done n 5 0x20 (MoveFrom (pos 0x40) 1) (put_bytes m 0x200000 bytes) (put_bytes old.memory 0x200000 bytes) es old (record from { bus = s.bus }) end new g a.dsp holds_4 refl r refl (ap (λ (x : List ℕ). put_bytes x 0x200000 bytes) a.memory_is) d
 
-  -- 28 the status
+  -- 0x28 the status
   takes_status : (n status : ℕ) (m : List ℕ) (es : List Event) (old : Chip B) (end : StepEnd) (new : Chip B) → At n 5 m (asks Status (event.ByteIn (Some status) ∷ es)) old → step.ChipStep moves 0 old end new → Went (suc n) 6 (put_bytes m 0x10014 (status ∷ [])) es end new
   takes_status n status m es old end new a r =
       let g : Going n old.memory old.regs = a.going in
@@ -227,7 +223,7 @@ module _ {B : Type 0} (moves : B → Event → B → Type 0) (P : B → Type 0) 
       let d : Done moves P (put_bytes old.memory 0x10014 (status ∷ [])) es (record from { bus = s.bus }) end new = answering.taken moves P 3 (status ∷ []) es (record from { bus = s.bus }) end new refl refl refl refl s.rest s.moved in
       done n 6 0x28 (MoveFrom (pos 0x30) 3) (put_bytes m 0x10014 (status ∷ [])) (put_bytes old.memory 0x10014 (status ∷ [])) es old (record from { bus = s.bus }) end new g a.dsp holds_5 refl r refl (ap (λ (x : List ℕ). put_bytes x 0x10014 (status ∷ [])) a.memory_is) d
 
-  -- 30 the message
+  -- 0x30 the message
   takes_message : (n b : ℕ) (m : List ℕ) (es : List Event) (old : Chip B) (end : StepEnd) (new : Chip B) → At n 6 m (asks MsgIn (event.ByteIn (Some b) ∷ es)) old → step.ChipStep moves 0 old end new → Went (suc n) 7 (put_bytes m 0x1010 (b ∷ [])) es end new
   takes_message n c m es old end new a r =
       let g : Going n old.memory old.regs = a.going in
@@ -237,7 +233,7 @@ module _ {B : Type 0} (moves : B → Event → B → Type 0) (P : B → Type 0) 
       let d : Done moves P (put_bytes old.memory 0x1010 (c ∷ [])) es (record from { bus = s.bus }) end new = answering.taken_message moves P c es (record from { bus = s.bus }) end new refl s.rest s.moved in
       done n 7 0x30 (Move 1 0x1010 7) (put_bytes m 0x1010 (c ∷ [])) (put_bytes old.memory 0x1010 (c ∷ [])) es old (record from { bus = s.bus }) end new g a.dsp holds_6 refl r refl (ap (λ (x : List ℕ). put_bytes x 0x1010 (c ∷ [])) a.memory_is) d
 
-  -- 38 CLEAR ACK
+  -- 0x38 CLEAR ACK
   clears : (n : ℕ) (m : List ℕ) (es : List Event) (old : Chip B) (end : StepEnd) (new : Chip B) → At n 7 m (event.ClearAck ∷ es) old → step.ChipStep moves 0 old end new → Went (suc n) 8 m es end new
   clears n m es old end new a r =
       let g : Going n old.memory old.regs = a.going in
@@ -245,7 +241,7 @@ module _ {B : Type 0} (moves : B → Event → B → Type 0) (P : B → Type 0) 
       let x : Answers moves (event.ClearAck ∷ es) P c.mid = rw c.atn_first a.rest in
       went n 8 m es old end new g r c.ends.is (ap (λ (y : Regs). y.dsp) c.ends.regs_are ∙ next_at n 0x38 (Clear true false) old g a.dsp holds_7) (c.ends.memory_is ∙ a.memory_is) (x event.ClearAck new.bus refl c.ack_then).1
 
-  -- 40 WAIT DISCONNECT
+  -- 0x40 WAIT DISCONNECT
   leaves : (n : ℕ) (m : List ℕ) (es : List Event) (old : Chip B) (end : StepEnd) (new : Chip B) → At n 8 m (event.Leave 0 true ∷ es) old → step.ChipStep moves 0 old end new → Went (suc n) 9 m es end new
   leaves n m es old end new a r =
       let g : Going n old.memory old.regs = a.going in
@@ -256,7 +252,7 @@ module _ {B : Type 0} (moves : B → Event → B → Type 0) (P : B → Type 0) 
       let f : WaitsAt true (after_fetch old) end new = rw gone at w.2 in
       went n 9 m es old end new g r f.is (ap (λ (y : Regs). y.dsp) f.regs_are ∙ next_at n 0x40 WaitDisconnect old g a.dsp holds_8) (f.memory_is ∙ a.memory_is) x.1
 
-  -- 48 INT 7
+  -- 0x48 INT 7
   pub record Over (m : List ℕ) (end : StepEnd) (new : Chip B) : Type 0 where
     pub is : end ≡ Stopped (Sir 7)
     pub memory_is : new.memory ≡ m
@@ -311,15 +307,15 @@ module _ {B : Type 0} (moves : B → Event → B → Type 0) (P : B → Type 0) 
   from_3_status n status m old new a (next {mid = mid} r s) = from_5 (suc n) status m mid new (finds_status n m (ending status) old Ran mid a r).at s
 
   -- the first three steps, and then what the calls that are left lead to
-  from_2 : (n lba : ℕ) (m : List ℕ) (es : List Event) (X : Type 0) (old new : Chip B) → Told lba m → ((mid : Chip B) → At (suc n) 3 m es mid → Steps moves mid new → X) → At n 2 m (asks Command (outs (cdb lba) es)) old → Steps moves old new → X
+  from_2 : (n lba : ℕ) (m : List ℕ) (es : List Event) (X : Type 0) (old new : Chip B) → HasMessageAndCdb lba m → ((mid : Chip B) → At (suc n) 3 m es mid → Steps moves mid new → X) → At n 2 m (asks Command (outs (cdb lba) es)) old → Steps moves old new → X
   from_2 n lba m es X old new t f a (last cause r) = absurd (not_over cause (commands n lba m es old (Stopped cause) new t.command a r).is)
   from_2 n lba m es X old new t f a (next {mid = mid} r s) = f mid (commands n lba m es old Ran mid t.command a r).at s
 
-  from_1 : (n lba : ℕ) (m : List ℕ) (es : List Event) (X : Type 0) (old new : Chip B) → Told lba m → ((mid : Chip B) → At (suc (suc n)) 3 m es mid → Steps moves mid new → X) → At n 1 m (asks MsgOut (outs (0xc0 ∷ 0x20 ∷ 0 ∷ []) (event.SetAtn false ∷ asks Command (outs (cdb lba) es)))) old → Steps moves old new → X
+  from_1 : (n lba : ℕ) (m : List ℕ) (es : List Event) (X : Type 0) (old new : Chip B) → HasMessageAndCdb lba m → ((mid : Chip B) → At (suc (suc n)) 3 m es mid → Steps moves mid new → X) → At n 1 m (asks MsgOut (outs (0xc0 ∷ 0x20 ∷ 0 ∷ []) (event.SetAtn false ∷ asks Command (outs (cdb lba) es)))) old → Steps moves old new → X
   from_1 n lba m es X old new t f a (last cause r) = absurd (not_over cause (tells n m (asks Command (outs (cdb lba) es)) old (Stopped cause) new t.message a r).is)
   from_1 n lba m es X old new t f a (next {mid = mid} r s) = from_2 (suc n) lba m es X mid new t f (tells n m (asks Command (outs (cdb lba) es)) old Ran mid t.message a r).at s
 
-  from_0 : (lba : ℕ) (m : List ℕ) (es : List Event) (X : Type 0) (old new : Chip B) → old.regs.con ≡ false → Told lba m → ((mid : Chip B) → At 3 3 m es mid → Steps moves mid new → X) → At 0 0 m (beginning lba es) old → Steps moves old new → X
+  from_0 : (lba : ℕ) (m : List ℕ) (es : List Event) (X : Type 0) (old new : Chip B) → old.regs.con ≡ false → HasMessageAndCdb lba m → ((mid : Chip B) → At 3 3 m es mid → Steps moves mid new → X) → At 0 0 m (beginning lba es) old → Steps moves old new → X
   from_0 lba m es X old new off t f a (last cause r) = absurd (not_over cause (selects m (asks MsgOut (outs (0xc0 ∷ 0x20 ∷ 0 ∷ []) (event.SetAtn false ∷ asks Command (outs (cdb lba) es)))) old (Stopped cause) new off a r).is)
   from_0 lba m es X old new off t f a (next {mid = mid} r s) = from_1 1 lba m es X mid new t f (selects m (asks MsgOut (outs (0xc0 ∷ 0x20 ∷ 0 ∷ []) (event.SetAtn false ∷ asks Command (outs (cdb lba) es)))) old Ran mid off a r).at s
 
@@ -334,7 +330,7 @@ module _ {B : Type 0} (moves : B → Event → B → Type 0) (P : B → Type 0) 
       let a' : Answers moves (read_calls lba bytes status) P f.opening.bus = rw f.bus_is a in
       let off : f.opening.regs.con ≡ false = ap (λ (r : Regs). r.con) o.regs_are in
       let e : Ended (put_bytes (put_bytes (put_bytes (laid lba z) 0x200000 bytes) 0x10014 (status ∷ [])) 0x1010 (0 ∷ [])) new =
-      from_0 lba (laid lba z) (asks DataIn (asks DataIn (ins bytes (ending status)))) (Ended (put_bytes (put_bytes (put_bytes (laid lba z) 0x200000 bytes) 0x10014 (status ∷ [])) 0x1010 (0 ∷ [])) new) f.opening new off (told lba z o.zeros.size)
+      from_0 lba (laid lba z) (asks DataIn (asks DataIn (ins bytes (ending status)))) (Ended (put_bytes (put_bytes (put_bytes (laid lba z) 0x200000 bytes) 0x10014 (status ∷ [])) 0x1010 (0 ∷ [])) new) f.opening new off (has_message_and_cdb lba z o.zeros.size)
       (λ mid at s. from_3 3 status bytes (laid lba z) mid new len at s) (opened lba (asks DataIn (asks DataIn (ins bytes (ending status)))) f.opening o a') f.steps in
       record { zero_memory = z; zeros = o.zeros; memory_is = e.memory_is; cause_is = e.cause_is; bus_is = e.bus_is }
 
@@ -346,6 +342,6 @@ module _ {B : Type 0} (moves : B → Event → B → Type 0) (P : B → Type 0) 
       let a' : Answers moves (status_calls lba status) P f.opening.bus = rw f.bus_is a in
       let off : f.opening.regs.con ≡ false = ap (λ (r : Regs). r.con) o.regs_are in
       let e : Ended (put_bytes (put_bytes (laid lba z) 0x10014 (status ∷ [])) 0x1010 (0 ∷ [])) new =
-      from_0 lba (laid lba z) (asks Status (ending status)) (Ended (put_bytes (put_bytes (laid lba z) 0x10014 (status ∷ [])) 0x1010 (0 ∷ [])) new) f.opening new off (told lba z o.zeros.size)
+      from_0 lba (laid lba z) (asks Status (ending status)) (Ended (put_bytes (put_bytes (laid lba z) 0x10014 (status ∷ [])) 0x1010 (0 ∷ [])) new) f.opening new off (has_message_and_cdb lba z o.zeros.size)
       (λ mid at s. from_3_status 3 status (laid lba z) mid new at s) (opened lba (asks Status (ending status)) f.opening o a') f.steps in
       record { zero_memory = z; zeros = o.zeros; memory_is = no_data (laid lba z) status new.memory e.memory_is; cause_is = e.cause_is; bus_is = e.bus_is }

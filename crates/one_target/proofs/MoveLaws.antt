@@ -1,7 +1,6 @@
 -- Each move of the bus of `one` keeps what holds of it.
 use Rattle.std.proofs.Common.{◌≡◌, ℕ, zero, suc, ◌==◌, ◌||◌, if◌then◌else◌, Bool, true, false, nat_lt, List, [], ◌∷◌, map, refl, ap, sym, ◌∙◌, subst, arith, Option, Some, None, slice_get}
 use Rattle.std.proofs.lemmas.Bool.Decides.{nat_tests}
-use Rattle.std.specs.Prelude.{fold}
 use Rattle.cdb_codec.specs.declared.commands.Cdb.{Cdb}
 use Rattle.cdb_codec.specs.Blocks.{cdb_of}
 use Rattle.cdb_codec.specs.Forms.{need_of}
@@ -13,12 +12,13 @@ use Rattle.target_law.specs.declared.task_phase.TaskPhase.{TaskPhase}
 use Rattle.target_law.specs.declared.task_phase.TaskPhase.TheVariants.{ToChoose, MessageOut, DataIn, DataOut, Status, MessageIn}
 use Rattle.target_law.specs.declared.moves.Move.{Move}
 use Rattle.target_law.specs.declared.nexus.Nexus.{Nexus}
-use Rattle.target_law.specs.Session.{Task, acted, closed, began}
+use Rattle.target_law.specs.Session.{acted, closed, began}
 use Rattle.target_law.specs.Bytes.{Connection, sent_by, took_by, heard_by}
-use Rattle.target_law.specs.Target.{LogicalUnit, ConnectionState, BusFree, Selected, TakingCommand, TaskConnected, RogueConnected, Target, flat, unit_at, with_unit, at_lun, on_unit, session, unit_after, goes_on, ends, leaves, linked, unit_left, drops, drops_by, unit_reset, slot_reset, parted, target_reset}
+use Rattle.target_law.specs.Target.{LogicalUnit, ConnectionState, BusFree, Selected, TakingCommand, TaskConnected, RogueConnected, Target, flat, unit_at, with_unit, at_lun, on_unit, session, unit_after, goes_on, ends, leaves, linked, unit_left, drops, unit_reset, slot_reset, parted, target_reset}
 use Rattle.target_law.specs.Calls.{is_rogue, target_selected, selected_by, target_acted, acted_by, asked_by, sent_if, took_if, InitiatorMessage, Names, Resets, AbortsTag, Other, message_of, greeted, aborted, told, messaged_by, target_messaged, message_acked, shown_acked, acked_by, target_acked, begun, begun_with, begun_by, target_begun, has_tag, has_ended}
 use Rattle.one_target.specs.Holding.{is_usual, is_alone, is_of_one}
 use Rattle.one_target.proofs.Slots.{slots, unit_at-slots, with_unit-slots}
+use Rattle.target_law.proofs.Rigs.{rig-drops_by, rig-unit_reset}
 
 -- the unit of a target that has it alone
 pub record Alone (units : List (Option LogicalUnit)) : Type 0 where
@@ -128,23 +128,11 @@ acted-kept u (TaskConnected c) m q e =
 acted-kept u (RogueConnected s n) m q e = absurd cc
 
 -- a reset
-dropped-rig : (senses : Bool) (u : LogicalUnit) (k : Task) → (drops_by senses u k).rig ≡ u.rig
-dropped-rig true u k = refl
-dropped-rig false u k = refl
-
-drops-rig : (ks : List Task) (u : LogicalUnit) → (fold drops u ks).rig ≡ u.rig
-drops-rig [] u = refl
-drops-rig (k ∷ ks) u = drops-rig ks (drops u k) ∙ dropped-rig k.senses u k
-
-reset-rig : (u : LogicalUnit) → (unit_reset u).rig ≡ u.rig
-unfolding unit_reset
-reset-rig u = drops-rig u.tasks u
-
 reset-alone : (t : Target) → IsKept t → IsKept (record { units = map slot_reset t.units; link = BusFree })
 reset-alone t k =
     let v : LogicalUnit = k.alone.unit in
     let e : map slot_reset t.units ≡ slots (unit_reset v) = ap (λ (us : List (Option LogicalUnit)). map slot_reset us) k.alone.units_are in
-    record { alone = record { unit = unit_reset v; units_are = e; usual = ap is_usual (reset-rig v) ∙ k.alone.usual }; of_one = refl }
+    record { alone = record { unit = unit_reset v; units_are = e; usual = ap is_usual (rig-unit_reset v) ∙ k.alone.usual }; of_one = refl }
 
 parted-kept : (u : LogicalUnit) (l m : ConnectionState) → is_usual u.rig ≡ true → is_of_one l ≡ true → IsKept (parted m (at_one u l))
 parted-kept u l BusFree q e = made u l q e
@@ -169,7 +157,7 @@ greeted-kept u l AbortsTag q e = made u BusFree q refl
 greeted-kept u l Other q e = made u BusFree q refl
 
 aborted-kept : (reselected : Bool) (u : LogicalUnit) (l : ConnectionState) (c : Connection) → is_usual u.rig ≡ true → is_of_one l ≡ true → IsKept (at_lun (at_one u l) c.lun (aborted reselected (at_one u l) c))
-aborted-kept true u l c q e = at-lun u (at_one u l) c.lun (aborted true (at_one u l) c) refl (made u l q e) (λ z. changed u (drops u c.task) c.lun BusFree z (dropped-rig c.task.senses u c.task) q refl)
+aborted-kept true u l c q e = at-lun u (at_one u l) c.lun (aborted true (at_one u l) c) refl (made u l q e) (λ z. changed u (drops u c.task) c.lun BusFree z (rig-drops_by c.task.senses u c.task) q refl)
 aborted-kept false u l c q e = left-kept u l c q e
 
 told-kept : (h : InitiatorMessage) (u : LogicalUnit) (l : ConnectionState) (c : Connection) → is_usual u.rig ≡ true → is_of_one l ≡ true → IsKept (told h (at_one u l) c)

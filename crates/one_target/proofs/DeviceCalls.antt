@@ -16,8 +16,8 @@ use Rattle.scsi_target.specs.Devices.{IsPresent}
 use Rattle.one_target.specs.Bus.{BusState, bus_of, if_fits, with_room, live_ticket, ticket_at, taken_where, is_to_choose, LeavesBus, Settles, SettlesWhere, ActsAt, become, becomes, ChoosesWhere, GoesOn, TurnsWhere, Turns, is_message, messaged_where, acked_where, after_ack}
 use Rattle.one_target.specs.Holding.{is_usual, is_of_one, IsHeld, IsHeldDevice}
 use Rattle.one_target.proofs.Slots.{slots, unit_at-slots}
-use Rattle.one_target.proofs.Keeping.{IsKept, kept-acted, zero-of}
-use Rattle.one_target.proofs.Between.{kept-of, held, kept-with_room, with_room-fits, Left, left-is, selects-held}
+use Rattle.one_target.proofs.MoveLaws.{IsKept, kept-acted, zero-of}
+use Rattle.one_target.proofs.Between.{kept-of, held, kept-with_room, with_room-fits, HasLeftBus, left-is, selects-held}
 
 pub kept-device : (d : DeviceState) → IsHeldDevice d → IsKept d.target
 kept-device d h = kept-of (bus_of d false false None) h
@@ -76,7 +76,7 @@ leaving (TaskConnected c) d e f h =
     let k : IsKept t = kept-device d h in
     let u : (x : LogicalUnit) × (unit_at t.units c.lun ≡ Some x) = unit-of-task t c k e in
     let after : target_messaged (linked t (asked_by t.link)) ≡ leaves t c u.0 = ap (λ (x : ConnectionState). target_messaged (linked t (asked_by x))) e ∙ messaged-leaves t c u.0 u.1 in
-    let l : Left t (leaves t c u.0) d.rooms = left-is t (leaves t c u.0) d.rooms k (record { connection = c; working = e; unit = u.0; unit_is = u.1; left = refl }) in
+    let l : HasLeftBus t (leaves t c u.0) d.rooms = left-is t (leaves t c u.0) d.rooms k (record { connection = c; working = e; unit = u.0; unit_is = u.1; left = refl }) in
     let fits : lie_within (leaves t c u.0).units d.rooms ≡ true = l.fits h.fits in
     let is : (where_room asked (target_messaged asked.target)).target ≡ leaves t c u.0 =
     ap (λ (x : DeviceState). x.target) (where_room-is asked (target_messaged asked.target)) ∙ ap (λ (x : Target). with_room d.rooms asked.target x) after ∙ ap (λ (x : Bool). if_fits x asked.target (leaves t c u.0)) fits in

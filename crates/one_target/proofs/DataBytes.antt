@@ -13,8 +13,8 @@ use Rattle.target_law.specs.Bytes.{data_at}
 use Rattle.target_law.specs.Target.{LogicalUnit, Target}
 use Rattle.straight_run.specs.Reading.{Answers, ins}
 use Rattle.one_target.specs.Bus.{BusState, moves}
-use Rattle.one_target.proofs.Asking.{gives}
-use Rattle.one_target.proofs.Choosing.{working}
+use Rattle.one_target.proofs.CallAnswers.{gives}
+use Rattle.one_target.proofs.Choices.{working}
 
 -- the bus with its target, no line asserted
 abbrev pub bus : List ℕ → Target → Option BusPhase → BusState

@@ -2,9 +2,9 @@ use Rattle.std.proofs.Common.{◌≡◌, ◌&&◌, ◌∙◌, ap, sym, subst, re
 use Rattle.target_law.specs.Calls.{link_phase}
 use Rattle.one_target.specs.Bus.{BusState, bus_of, is_message, messaged_where}
 use Rattle.one_target.specs.Holding.{IsHeld}
-use Rattle.one_target.proofs.Calling.{heard-is}
+use Rattle.one_target.proofs.DeviceCalls.{heard-is}
 use Rattle.one_target.proofs.Between.{messaged-held}
-use Rattle.one_target.proofs.bus.OneBus.hear.Goals as goal
+use Rattle.one_target.proofs.bus.OneBus.end_message.Goals as goal
 
 heard : (c : goal.After-self-2-1) → bus_of c.end_message.new.self (c.self.inside.atn && c.connected-bound.result) (c.self.inside.ack && c.connected-bound.result) c.self.inside.asked
     ≡ messaged_where (is_message (link_phase c.self.inside.device.target.link)) (bus_of c.self.inside.device c.self.inside.atn c.self.inside.ack c.self.inside.asked)
