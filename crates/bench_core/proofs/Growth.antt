@@ -1,0 +1,167 @@
+-- A step makes at most one signal due of each caller, and at most one ticket; so neither is more than there are entries.
+use Rattle.std.proofs.Common.{arith, ◌≡◌, ◌<◌, ◌≤◌, Bool, true, false, ℕ, zero, suc, ◌+◌, ◌-◌, List, [], ◌∷◌, ◌++◌, length, map, replicate, slice_get, slice_set, slice_index_or, Option, Some, None, refl, sym, ap, subst, ◌∙◌, inl, inr}
+use Rattle.rig_types.specs.declared.commands.Command.{Command}
+use Rattle.rig_types.specs.declared.acts.Act.{Act}
+use Rattle.rig_types.specs.declared.acts.ActKind.{ActKind}
+use Rattle.rig_types.specs.declared.acts.ActKind.TheVariants.{Abort, Device, Bus}
+use Rattle.rig_types.specs.declared.step.Entry.{Entry}
+use Rattle.rig_types.specs.declared.step.Line.{Line}
+use Rattle.rig_types.specs.declared.step.Step.{Step}
+use Rattle.rig_types.specs.declared.step.Step.TheVariants as step
+use Rattle.desk_law.specs.declared.refused.Refused.{Refused}
+use Rattle.desk_law.specs.declared.ticket.Ticket.{Ticket}
+use Rattle.desk_law.specs.Desk.{DeskState, aborter, reaper, ticket, due, owed, paid}
+use Rattle.desk_law.specs.Rings.{done_ticket}
+use Rattle.world_law.specs.declared.reply.Decided.{Decided}
+use Rattle.world_law.specs.declared.reply.Decided.TheVariants as line
+use Rattle.world_law.specs.declared.reply.Reply.{Reply}
+use Rattle.world_law.specs.declared.reply.Reply.TheVariants as reply
+use Rattle.world_law.specs.declared.reply.Stop.{Stop}
+use Rattle.world_law.specs.declared.reply.Stop.TheVariants as stop
+use Rattle.world_law.specs.World.{BenchSetting, World, command_at, decided}
+use Rattle.world_law.specs.Opening.{opened}
+use Rattle.world_law.specs.Repairs.{Fixes}
+use Rattle.world_law.specs.Builds.{refuses, is_tried_again, BuildsBy, BuildsOf}
+use Rattle.world_law.specs.Acts.{is_late, marks, aborts, device_resets, bus_resets, acts_by, ActsOf}
+use Rattle.world_law.specs.Steps.{TakesOf, Does}
+use Rattle.world_law.specs.Runs.{Moment, IsRun, last, entries, built}
+use Rattle.world_law.proofs.Effects.{Effect, Counted, effect}
+use Rattle.bench_core.specs.Histories.{IsReplayed}
+
+-- each caller has at most one signal more
+abbrev OwesOneMore : DeskState → DeskState → Type 0
+OwesOneMore old new = (c : ℕ) → due new c ≤ due old c + 1
+
+same : (old new : DeskState) → new.due ≡ old.due → OwesOneMore old new
+same old new e c = omega (arith, ap (λ (ns : List ℕ). slice_index_or ns c 0) e)
+
+stays : (d : DeskState) → OwesOneMore d d
+stays d c = omega arith
+
+set-more : (ns : List ℕ) (at c : ℕ) → slice_index_or (slice_set ns at (slice_index_or ns at 0 + 1)) c 0 ≤ slice_index_or ns c 0 + 1
+set-more [] at c = omega arith
+set-more (n ∷ ns) zero zero = omega arith
+set-more (n ∷ ns) zero (suc c) = omega arith
+set-more (n ∷ ns) (suc at) zero = omega arith
+set-more (n ∷ ns) (suc at) (suc c) = set-more ns at c
+
+set-less : (ns : List ℕ) (at c : ℕ) → slice_index_or (slice_set ns at (slice_index_or ns at 0 - 1)) c 0 ≤ slice_index_or ns c 0 + 1
+set-less [] at c = omega arith
+set-less (n ∷ ns) zero zero = omega arith
+set-less (n ∷ ns) zero (suc c) = omega arith
+set-less (n ∷ ns) (suc at) zero = omega arith
+set-less (n ∷ ns) (suc at) (suc c) = set-less ns at c
+
+-- a step that leads to this world
+led : (old made new : World) → new ≡ made → OwesOneMore old.desk made.desk → OwesOneMore old.desk new.desk
+led old made new e h = subst (λ (w : World). OwesOneMore old.desk w.desk) (sym e) h
+
+refused : (again : Bool) (old : World) (l : Line) (r : Refused) → OwesOneMore old.desk (refuses again old l r).desk
+refused true old l r = stays old.desk
+refused false old l r = stays old.desk
+
+builds : (c : Command) (old : World) (l : Line) (a : Reply) (new : World) → BuildsBy old l c a new → OwesOneMore old.desk new.desk
+builds c old l (reply.Built t) new m = same old.desk new.desk (ap (λ (d : DeskState). d.due) m.builds.desk)
+builds c old l (reply.Refused r) new m = led old (refuses (is_tried_again c.when_full r) old l r) new m.1 (refused (is_tried_again c.when_full r) old l r)
+builds c old l _ new m = absurd m
+
+builds-of : (o : Option Command) (old : World) (l : Line) (a : Reply) (new : World) → BuildsOf o old l a new → OwesOneMore old.desk new.desk
+builds-of None old l a new m = absurd m
+builds-of (Some c) old l a new m = builds c old l a new m
+
+fixes : (old new : World) → Fixes old new → OwesOneMore old.desk new.desk
+fixes old new h = elim h [
+  | inl x ↦ same old.desk new.desk (ap (λ (w : World). w.desk.due) x.world)
+  | inr x ↦ same old.desk new.desk (ap (λ (w : World). w.desk.due) x.1)
+]
+
+takes : (o : Option ℕ) (old : World) (a : Reply) (new : World) → TakesOf o old a new → OwesOneMore old.desk new.desk
+takes None old a new m = absurd m
+takes (Some t) old a new m = same old.desk new.desk (ap (λ (w : World). w.desk.due) m.1)
+
+marks-none : (late : Bool) (old : World) (t : ℕ) → OwesOneMore old.desk (marks late old t).world.desk
+marks-none true old t = stays old.desk
+marks-none false old t = stays old.desk
+
+aborts-none : (d : Decided) (old : World) → OwesOneMore old.desk (aborts old d).world.desk
+aborts-none line.Open old = stays old.desk
+aborts-none (line.Accepted t) old = marks-none (is_late (ticket old.desk t).stage) old t
+aborts-none (line.Refused r) old = stays old.desk
+
+fronts : (idle : Bool) (old : World) (target : ℕ) → OwesOneMore old.desk (device_resets idle old target).world.desk
+fronts true old target = λ c. set-more old.desk.due (aborter old.desk) c
+fronts false old target = stays old.desk
+
+bus-none : (s : Stop) (old : World) → OwesOneMore old.desk (bus_resets s old).world.desk
+bus-none stop.Run old = stays old.desk
+bus-none stop.Mismatch old = stays old.desk
+bus-none stop.Clear old = stays old.desk
+bus-none stop.MustReset old = stays old.desk
+
+acts : (k : ActKind) (old : World) → OwesOneMore old.desk (acts_by old k).world.desk
+acts (Abort l) old = aborts-none (decided old l) old
+acts (Device target) old = fronts _ old target
+acts Bus old = bus-none old.stop old
+
+acts-of : (o : Option Act) (old : World) (a : Reply) (new : World) → ActsOf o old a new → OwesOneMore old.desk new.desk
+acts-of None old a new m = absurd m
+acts-of (Some x) old a new m = led old (acts_by old x.kind).world new m.1 (acts x.kind old)
+
+owes-one-more : (g : BenchSetting) (old : World) (caller : ℕ) (s : Step) (a : Reply) (new : World) → Does g old caller s a new → OwesOneMore old.desk new.desk
+owes-one-more g old caller (step.Build l) a new m = builds-of (command_at g l) old l a new m
+owes-one-more g old caller (step.Link t) a new m = led old _ new m.1 (stays old.desk)
+owes-one-more g old caller (step.Queue t) a new m = led old _ new m.1 (λ c. set-more old.desk.due _ c)
+owes-one-more g old caller step.Signal a new m = led old _ new m.1 (λ c. set-less old.desk.due caller c)
+owes-one-more g old caller (step.Chip word) a new m = led old _ new m.world (stays old.desk)
+owes-one-more g old caller step.Fix a new m = fixes old new m.1
+owes-one-more g old caller (step.Sweep t) a new m = led old _ new m.1 (stays old.desk)
+owes-one-more g old caller step.Restart a new m = led old _ new m.1 (stays old.desk)
+owes-one-more g old caller step.TakeDone a new m = takes (done_ticket old.memory old.desk) old a new m
+owes-one-more g old caller (step.Unlink t) a new m = led old _ new m.1 (stays old.desk)
+owes-one-more g old caller (step.Free t) a new m = same old.desk new.desk (ap (λ (d : DeskState). d.due) m.frees.desk)
+owes-one-more g old caller (step.Act k) a new m = acts-of (slice_get g.acts k) old a new m
+owes-one-more g old caller step.ResetBus a new m = led old _ new m.1 (stays old.desk)
+owes-one-more g old caller (step.Sense t) a new m = led old _ new m.1 (λ c. set-more old.desk.due (reaper old.desk) c)
+
+-- ---- over runs
+
+one-ticket-more : (old new : List Ticket) (number : Option ℕ) → Counted old number new → length new ≤ length old + 1
+one-ticket-more old new number c = elim c [
+  | inl x ↦ omega (arith, x.1)
+  | inr x ↦ omega (arith, x.1)
+]
+
+-- after so many entries
+pub record HasFew (count : ℕ) (d : DeskState) : Type 0 where
+  pub due : (c : ℕ) → due d c ≤ count
+  pub tickets : length d.tickets ≤ count
+
+few-after : (g : BenchSetting) (ms : List Moment) (w : World) (n : ℕ) → IsRun g w ms → HasFew n w.desk → HasFew (n + length ms) (last w ms).desk
+few-after g [] w n r h = record { due = λ c. omega (arith, h.due c); tickets = omega (arith, h.tickets) }
+few-after g (m ∷ ms) w n r h =
+    let d : OwesOneMore w.desk m.after.desk = owes-one-more g w m.entry.caller m.entry.step m.reply m.after r.0.does in
+    let t : length m.after.desk.tickets ≤ length w.desk.tickets + 1 =
+    one-ticket-more w.desk.tickets m.after.desk.tickets (built m.reply) (effect g w m.entry.caller m.entry.step m.reply m.after r.0.enabled r.0.does).counted in
+    let next : HasFew (n + 1) m.after.desk = record { due = λ c. omega (arith, h.due c, d c); tickets = omega (arith, h.tickets, t) } in
+    let all : HasFew (n + 1 + length ms) (last m.after ms).desk = few-after g ms m.after (n + 1) r.1 next in
+    record { due = λ c. omega (arith, all.due c); tickets = omega (arith, all.tickets) }
+
+abbrev owing : List ℕ → ℕ → ℕ
+owing ns c = slice_index_or ns c 0
+
+zeros : (n c : ℕ) → owing (replicate n 0) c ≡ 0
+zeros zero c = refl
+zeros (suc n) zero = refl
+zeros (suc n) (suc c) = zeros n c
+
+entries-length : (ms : List Moment) → length (entries ms) ≡ length ms
+entries-length [] = refl
+entries-length (m ∷ ms) = omega (arith, entries-length ms)
+
+pub few_of : (g : BenchSetting) (es : List Entry) (w : World) → IsReplayed g es w → HasFew (length es) w.desk
+few_of g es w h =
+    let start : HasFew 0 (opened g).desk = record { due = λ c. omega (arith, zeros (length g.submitters + 3) c); tickets = omega arith } in
+    let all : HasFew (0 + length h.moments) (last (opened g) h.moments).desk = few-after g h.moments (opened g) 0 h.run start in
+    let here : HasFew (0 + length h.moments) w.desk = subst (λ (x : World). HasFew (0 + length h.moments) x.desk) h.world all in
+    let count : length es ≡ length h.moments = ap (λ (xs : List Entry). length xs) (sym h.are) ∙ entries-length h.moments in
+    record { due = λ c. omega (arith, here.due c, count); tickets = omega (arith, here.tickets, count) }

@@ -1,0 +1,9 @@
+pub mod TicketLaws
+pub mod Stages
+pub mod Waiting
+pub mod Tails
+pub mod Sweeps
+pub mod Fixing
+pub mod Replays
+pub mod Growth
+pub mod Settled

@@ -1,0 +1,16 @@
+//! The bench: host memory, the chip, the bus and the driver's desk over a rig and its work, and the steps of its
+//! callers.
+#![tactic(auto)]
+
+mod acting;
+mod desk_steps;
+mod enabling;
+mod reading;
+mod repairing;
+mod restarting;
+mod seeing;
+mod state;
+mod sweeping;
+mod tickets;
+
+pub use state::{Lines, State};
