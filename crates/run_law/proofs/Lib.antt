@@ -1,1 +1,3 @@
 pub mod Longer
+pub mod SerialRuns
+pub mod Rows

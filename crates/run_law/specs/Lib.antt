@@ -5,4 +5,5 @@ pub mod Contained
 pub mod Fitting
 pub mod Serial
 pub mod Bound
+pub mod Rows
 pub mod Laws

@@ -5,4 +5,4 @@
 
 mod laws;
 
-pub use laws::longer_histories;
+pub use laws::{longer_histories, one_serial_run, worked_rows};
