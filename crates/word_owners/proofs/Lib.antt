@@ -1,0 +1,14 @@
+pub mod Frames
+pub mod Opening
+pub mod Turning
+pub mod Changing
+pub mod Lists
+pub mod Moving
+pub mod Staying
+pub mod Patches
+pub mod Marking
+pub mod Resetting
+pub mod Restarting
+pub mod Jobs
+pub mod Room
+pub mod Sweeping

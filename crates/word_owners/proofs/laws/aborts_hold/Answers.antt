@@ -1,0 +1,5 @@
+use Rattle.word_owners.proofs.Marking.{mark_holds}
+use Rattle.word_owners.proofs.laws.aborts_hold.Goals as goal
+
+pub returns : goal.returns
+returns c = mark_holds

@@ -1,0 +1,5 @@
+use Rattle.word_owners.proofs.Resetting.{reset_holds}
+use Rattle.word_owners.proofs.laws.resets_hold.Goals as goal
+
+pub returns : goal.returns
+returns c = reset_holds

@@ -1,0 +1,5 @@
+use Rattle.word_owners.proofs.Sweeping.{sweep_holds}
+use Rattle.word_owners.proofs.laws.sweeps_hold.Goals as goal
+
+pub returns : goal.returns
+returns c = sweep_holds

@@ -1,0 +1,7 @@
+pub mod Tickets
+pub mod Pointers
+pub mod Parts
+pub mod Points
+pub mod Works
+pub mod Holds
+pub mod Laws

@@ -1,0 +1,9 @@
+//! Who owns each word of host memory: what holds of a bench at every moment, for any target. Nothing here runs.
+#![tactic(auto)]
+
+mod laws;
+
+pub use laws::{
+    aborts_hold, device_resets_hold, links_hold, opening_holds, resets_hold, restarts_hold,
+    sweeps_hold,
+};
