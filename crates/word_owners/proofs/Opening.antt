@@ -11,7 +11,7 @@ use Rattle.opening_memory.specs.Opening.{opening_table, IsOpening}
 use Rattle.opening_memory.specs.Laws.{IsOpened}
 use Rattle.opening_memory.proofs.OpeningLaws.{says_names}
 use Rattle.desk_law.specs.declared.stage.Stage.TheVariants.{Built, Linked, Freed}
-use Rattle.world_law.specs.World.{Setting}
+use Rattle.world_law.specs.World.{BenchSetting}
 use Rattle.world_law.specs.Opening.{memory_opened, opened}
 use Rattle.world_law.proofs.Opens.{opens}
 use Rattle.word_owners.specs.Tickets.{tickets_of, AreTickets}
@@ -35,7 +35,7 @@ bytes-opened : (version : ℕ) (us : List RigUnit) → IsBytes (memory_opened ve
 unfolding memory_opened
 bytes-opened version us = bytes-written (replicate MEMORY_BYTES 0) (opening_table version us) (zero-bytes MEMORY_BYTES)
 
-no-tickets : (g : Setting) → AreTickets (tickets_of (opened g).desk)
+no-tickets : (g : BenchSetting) → AreTickets (tickets_of (opened g).desk)
 no-tickets g = record {
   block = λ t l. absurd (l refl);
   unit = λ t l. absurd (l refl);
@@ -47,7 +47,7 @@ no-tickets g = record {
   apart = λ t u i j l. absurd (l refl);
 }
 
-parts-opened : (g : Setting) → IsOpened (opened g).memory g.version g.units → Parts g.version (word_at (opened g).memory) (tickets_of (opened g).desk) no_counts None
+parts-opened : (g : BenchSetting) → IsOpened (opened g).memory g.version g.units → Parts g.version (word_at (opened g).memory) (tickets_of (opened g).desk) no_counts None
 parts-opened g o = record {
   loaded = o.script;
   chains = o.chains;

@@ -6,7 +6,7 @@ use Rattle.abort_reset.specs.Patches.{marked, job_at_front}
 use Rattle.desk_law.specs.declared.stage.Stage.TheVariants.{Built}
 use Rattle.desk_law.specs.Desk.{ticket, owed, paid}
 use Rattle.desk_law.specs.Calls.{links, link_memory, unlinks, unlink_memory, signalled}
-use Rattle.world_law.specs.World.{Setting, World, front}
+use Rattle.world_law.specs.World.{BenchSetting, World, front}
 use Rattle.world_law.specs.Enabling.{IsEnded}
 use Rattle.world_law.specs.declared.reply.Stop.TheVariants.{Run, Clear, MustReset}
 use Rattle.world_law.specs.Stops.{to_sweep, in_tail}
@@ -24,7 +24,7 @@ no_counts = record { started = 0; queued = 0; taken = 0; entered = 0 }
 
 -- it holds at the opening, where the chip stands at START
 abbrev pub HoldsOpened : Type 0
-HoldsOpened = (g : Setting) → length g.units ≤ 16 → Holds g.version g.units (Running At000) no_counts (opened g)
+HoldsOpened = (g : BenchSetting) → length g.units ≤ 16 → Holds g.version g.units (Running At000) no_counts (opened g)
 
 -- ---- each step of the driver keeps it
 
