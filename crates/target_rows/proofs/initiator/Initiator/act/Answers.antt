@@ -1,6 +1,6 @@
 use Rattle.target_law.specs.Calls.{target_acted}
 use Rattle.target_law.proofs.Rigs.{rigs-acted}
-use Rattle.target_rows.proofs.Holding.{held-where}
+use Rattle.target_rows.proofs.OneUnit.{held-where}
 use Rattle.target_rows.proofs.initiator.Initiator.act.Goals as goal
 
 pub invariant_of-self : goal.invariant_of-self

@@ -1,7 +1,7 @@
 use Rattle.std.proofs.Common.{ap, ◌∙◌}
 use Rattle.target_law.specs.Calls.{is_rogue}
 use Rattle.target_law.specs.Devices.{DeviceState}
-use Rattle.target_rows.proofs.Holding.{asks-rogue, asks-not, asks-so}
+use Rattle.target_rows.proofs.OneUnit.{asks-rogue, asks-not, asks-so}
 use Rattle.target_rows.proofs.initiator.Initiator.ask.Goals as goal
 
 pub returns-then-is_rogue-clause-asks : goal.returns-then-is_rogue-clause-asks

@@ -1,6 +1,6 @@
 use Rattle.target_law.specs.Beginning.{target_took}
 use Rattle.target_law.proofs.Rigs.{rigs-took}
-use Rattle.target_rows.proofs.Holding.{held-by}
+use Rattle.target_rows.proofs.OneUnit.{held-by}
 use Rattle.target_rows.proofs.initiator.Initiator.byte_out.Goals as goal
 
 pub invariant_of-self : goal.invariant_of-self

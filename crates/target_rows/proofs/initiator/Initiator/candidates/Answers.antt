@@ -1,4 +1,4 @@
-use Rattle.target_rows.proofs.Holding.{unit-there}
+use Rattle.target_rows.proofs.OneUnit.{unit-there}
 use Rattle.target_rows.proofs.initiator.Initiator.candidates.Goals as goal
 
 pub can_reselect-requires : goal.can_reselect-requires

@@ -1,4 +1,4 @@
-use Rattle.target_rows.proofs.Holding.{unit-there}
+use Rattle.target_rows.proofs.OneUnit.{unit-there}
 use Rattle.target_rows.proofs.initiator.Initiator.log_entry.Goals as goal
 
 pub log_entry-requires : goal.log_entry-requires

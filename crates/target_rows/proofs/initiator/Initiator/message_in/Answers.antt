@@ -3,7 +3,7 @@ use Rattle.target_law.specs.Target.{linked}
 use Rattle.target_law.specs.Calls.{link_byte, sent_if, WaitsForAck, target_acked}
 use Rattle.target_law.specs.Devices.{DeviceState}
 use Rattle.target_law.proofs.Rigs.{rigs-acked}
-use Rattle.target_rows.proofs.Holding.{waits-after, is-in, held-by, held-where}
+use Rattle.target_rows.proofs.OneUnit.{waits-after, is-in, held-by, held-where}
 use Rattle.target_rows.proofs.initiator.Initiator.message_in.Goals as goal
 
 pub end_ack-requires : goal.end_ack-requires

@@ -1,6 +1,6 @@
 use Rattle.std.proofs.Common.{ap}
 use Rattle.target_law.specs.Devices.{DeviceState}
-use Rattle.target_rows.proofs.Holding.{unit-there, held-opened, opened-target, opened-room}
+use Rattle.target_rows.proofs.OneUnit.{unit-there, held-opened, opened-target, opened-room}
 use Rattle.target_rows.proofs.initiator.Initiator.open.Goals as goal
 
 pub reserve-requires : goal.reserve-requires

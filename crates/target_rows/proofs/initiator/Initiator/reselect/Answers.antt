@@ -1,6 +1,6 @@
 use Rattle.target_law.specs.Calls.{target_reselected}
 use Rattle.target_law.proofs.Rigs.{rigs-reselected}
-use Rattle.target_rows.proofs.Holding.{unit-there, present-is, held-by, stays-connected, stays-without}
+use Rattle.target_rows.proofs.OneUnit.{unit-there, present-is, held-by, stays-connected, stays-without}
 use Rattle.target_rows.proofs.initiator.Initiator.reselect.Goals.{then-connected-via-then-connected, then-connected-via-else-connected+then-n-can_reselect}
 use Rattle.target_rows.proofs.initiator.Initiator.reselect.Goals as goal
 

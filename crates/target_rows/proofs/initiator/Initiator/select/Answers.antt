@@ -1,4 +1,4 @@
-use Rattle.target_rows.proofs.Holding.{present-is}
+use Rattle.target_rows.proofs.OneUnit.{present-is}
 use Rattle.target_rows.proofs.initiator.Initiator.select.Goals as goal
 
 pub select-requires-clause-present : goal.select-requires-clause-present
