@@ -180,8 +180,8 @@ module _ (g : BenchSetting) (s : ℕ) (c : Command) (there : s < length g.submit
 within-at-opening : (g : BenchSetting) → Within g (opened g)
 within-at-opening g s = subst (λ (ls : List Decided). length ls ≤ length (commands_of g s)) (sym (none-replicated (length g.submitters) s)) (omega arith)
 
-opens-alike : (g : BenchSetting) (s : ℕ) (c : Command) → opened (longer g s c) ≡ opened g
-opens-alike g s c =
+pub opens_alike : (g : BenchSetting) (s : ℕ) (c : Command) → opened (longer g s c) ≡ opened g
+opens_alike g s c =
     let with_count : ℕ → World = λ n. record (opened g) {
       desk = record (opened g).desk { submitters = n; due = replicate (n + 3) 0 };
       lines = replicate n [];
@@ -189,4 +189,4 @@ opens-alike g s c =
     ap with_count (length-set g.submitters s (commands_of g s ++ c ∷ []))
 
 pub extends : (g : BenchSetting) (s : ℕ) (c : Command) (ms : List Moment) → s < length g.submitters → IsRun g (opened g) ms → IsRun (longer g s c) (opened (longer g s c)) ms
-extends g s c ms there r = subst (λ (w : World). IsRun (longer g s c) w ms) (sym (opens-alike g s c)) (runs g s c there (opened g) ms (within-at-opening g) r)
+extends g s c ms there r = subst (λ (w : World). IsRun (longer g s c) w ms) (sym (opens_alike g s c)) (runs g s c there (opened g) ms (within-at-opening g) r)

@@ -140,6 +140,10 @@ OthersLeave = (g : BenchSetting) (old : World) (m : Moment) (s : ℕ) → s < ol
 abbrev pub longer : BenchSetting → (s : ℕ) → Command → BenchSetting
 longer g s c = record g { submitters = slice_set g.submitters s (commands_of g s ++ c ∷ []) }
 
+-- its world at the opening is the same
+abbrev pub OpensAlike : Type 0
+OpensAlike = (g : BenchSetting) (s : ℕ) (c : Command) → opened (longer g s c) ≡ opened g
+
 -- a run stays a run there
 abbrev pub Extends : Type 0
 Extends = (g : BenchSetting) (s : ℕ) (c : Command) (ms : List Moment) → s < length g.submitters → IsRun g (opened g) ms

@@ -1,6 +1,6 @@
 //! Laws of the world. Each function does nothing; its contract is the law.
 
-ghost use Rattle.world_law.specs.Laws.{OpensMemory, GoesOn, WentOn, EndsAfter, RestsDrained, EnabledOrNot, DoesOnce, RunsOnce, TracesOne, AnswersOnce, AnswersRunOn, ReportsAccepted, ReportsAll, StaysFreed, TicketsKept, LinesMatch, OthersLeave, Extends};
+ghost use Rattle.world_law.specs.Laws.{OpensMemory, GoesOn, WentOn, EndsAfter, RestsDrained, EnabledOrNot, DoesOnce, RunsOnce, TracesOne, AnswersOnce, AnswersRunOn, ReportsAccepted, ReportsAll, StaysFreed, TicketsKept, LinesMatch, OthersLeave, OpensAlike, Extends};
 
 /// Host memory at the opening is that of opening_memory's table.
 pub fn opens_memory()
@@ -59,7 +59,8 @@ pub fn others_leave()
     ensures { OthersLeave }
 {}
 
-/// A run stays a run where a submitter gets one more line.
+/// Where a submitter gets one more line, the world opens as before, and a run stays a run: so it leads to the same world.
 pub fn longer_works()
-    ensures { Extends }
+    ensures opening { OpensAlike }
+    ensures run { Extends }
 {}

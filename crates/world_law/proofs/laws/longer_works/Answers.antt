@@ -1,5 +1,5 @@
-use Rattle.world_law.proofs.Extending.{extends}
+use Rattle.world_law.proofs.Extending.{opens_alike, extends}
 use Rattle.world_law.proofs.laws.longer_works.Goals as goal
 
 pub returns : goal.returns
-returns c = extends
+returns c = record { opening = opens_alike; run = extends }
