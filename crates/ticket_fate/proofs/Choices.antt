@@ -17,6 +17,8 @@ use Rattle.target_law.specs.declared.task_phase.TaskPhase.TheVariants.{DataIn, D
 use Rattle.target_law.specs.Session.{Task, Session, remaining, acted, gone, phased, looked, looked_by, moves, performs}
 use Rattle.target_law.specs.Sound.{HasMoved, IsSoundTask}
 use Rattle.ticket_fate.specs.Tickets.{Plan, unit_of, opening, view_for}
+use Rattle.ticket_fate.specs.Senses.{Unasked}
+use Rattle.ticket_fate.proofs.Asking.{unasked-entry}
 use Rattle.ticket_fate.specs.Fates.{HasTask}
 use Rattle.ticket_fate.proofs.Views.{Grows}
 use Rattle.ticket_fate.proofs.TicketSteps.{held-none}
@@ -62,6 +64,7 @@ pub record Follows (g : Plan) (t named tries : ℕ) (buffer : List ℕ) (x y : S
   pub saved : y.task.saved ≡ x.task.saved
   pub ticket : y.task.ticket ≡ x.task.ticket
   pub clears : (view_for g t y.log).tally.clears ≡ (view_for g t x.log).tally.clears
+  pub unasked : (given : List ℕ) → Unasked given (view_for g t x.log) → Unasked given (view_for g t y.log)
 
 module _ (g : Plan) (t named tries : ℕ) (buffer : List ℕ) (x : Session) (own : x.task.ticket ≡ t)
     (q : HasTask g.retries (g.requests t) named tries buffer x.task (view_for g t x.log))
@@ -77,6 +80,7 @@ module _ (g : Plan) (t named tries : ℕ) (buffer : List ℕ) (x : Session) (own
     saved = refl;
     ticket = refl;
     clears = refl;
+    unasked = λ given u. u;
   }
 
   looks : (sh : TaskPhase) → (need_of x.task.cdb).direction ≡ In → x.task.kept ≡ None → Follows g t named tries buffer x (moves (performs x (perform x.unit x.task.cdb [])) sh)
@@ -115,6 +119,7 @@ module _ (g : Plan) (t named tries : ℕ) (buffer : List ℕ) (x : Session) (own
         saved = refl;
         ticket = refl;
         clears = ap (λ w. w.clears) v;
+        unasked = λ given u. unasked-entry g t given x.log (Look t) tt u;
       })
 
   looks_by : (b : Bool) (sh : TaskPhase) → x.task.senses ≡ b → (need_of x.task.cdb).direction ≡ In → x.task.kept ≡ None
@@ -129,7 +134,7 @@ module _ (g : Plan) (t named tries : ℕ) (buffer : List ℕ) (x : Session) (own
   phases : (d : Direction) (n : ℕ) → (need_of x.task.cdb).direction ≡ d → Follows g t named tries buffer x (phased d x n)
   phases In n e = looks_at x.task.kept (DataIn n) refl e
   phases Out n e = idle x.task.budget true (DataOut n)
-  phases NoData n e = record { grows = inl refl; runs = q; plain = p; position = refl; saved = refl; ticket = refl; clears = refl }
+  phases NoData n e = record { grows = inl refl; runs = q; plain = p; position = refl; saved = refl; ticket = refl; clears = refl; unasked = λ given u. u }
 
   goes : (left n : ℕ) → Follows g t named tries buffer x (gone left x n)
   goes zero n = idle x.task.budget false _
@@ -145,4 +150,4 @@ module _ (g : Plan) (t named tries : ℕ) (buffer : List ℕ) (x : Session) (own
   follows move.SaveLeave = idle (x.task.budget - 1) false _
   follows move.Save = idle (x.task.budget - 1) false _
   follows move.Restore = idle (x.task.budget - 1) false _
-  follows (move.Rogue word) = record { grows = inl refl; runs = q; plain = p; position = refl; saved = refl; ticket = refl; clears = refl }
+  follows (move.Rogue word) = record { grows = inl refl; runs = q; plain = p; position = refl; saved = refl; ticket = refl; clears = refl; unasked = λ given u. u }

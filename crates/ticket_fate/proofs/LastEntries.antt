@@ -25,7 +25,8 @@ use Rattle.target_law.specs.Sound.{HasMoved, IsSoundTask}
 use Rattle.ticket_fate.specs.Tickets.{Plan, unit_of, opening, Connected, Rejected, Finished, Ticket, with_life, view_for, IsAccepted}
 use Rattle.ticket_fate.specs.Fates.{HasTask, TicketKept}
 use Rattle.ticket_fate.proofs.Views.{Grows}
-use Rattle.ticket_fate.proofs.TicketSteps.{held-none, fate_at, needs}
+use Rattle.ticket_fate.proofs.TicketSteps.{held-none, fate_at, sense_at, needs}
+use Rattle.ticket_fate.proofs.Asking.{unasked-entry}
 use Rattle.ticket_fate.proofs.ReceivedBytes.{perform-same, perform-checked, dropped-same}
 
 -- where a command needs no bytes, its way doesn't matter
@@ -198,26 +199,30 @@ module _ (g : Plan) (t : ℕ) (k : Ticket) (x : Session) (a : IsAccepted (g.requ
       record {
         grows = inr (End t, refl, log);
         stands = subst (TicketKept g t (with_life k (Finished Done))) (sym log) (record {
-          fate = λ rogue. record {
-            by = inl (record {
-              one_end = ap (λ y. y.ends) v ∙ ap (λ n. n + 1) runs.ends;
-              no_drop = ap (λ y. y.drops) v ∙ runs.drops;
-              tries = runs.tried ∙ ap (λ y. y.refusals + 1) (sym v);
-              given = (
-                d.0,
-                d.1,
-                c ∙ ap status_code d.2,
-                ap (λ y. cond (nat_eq y (status_code Good)) (length (g.requests t).bytes - k.lastp) (length (g.requests t).bytes)) (c ∙ ap status_code d.2)
-                    ∙ left_over d.0.status (length (g.requests t).bytes) k.lastp _ d.3,
-                d.4,
-              );
-            });
-            ticket = refl;
-            of_unit = refl;
-            few_tries = runs.most;
-            all_within = refl;
-            all_caused = refl;
-          };
+          fate = (
+            λ rogue. record {
+              by = inl (record {
+                one_end = ap (λ y. y.ends) v ∙ ap (λ n. n + 1) runs.ends;
+                no_drop = ap (λ y. y.drops) v ∙ runs.drops;
+                tries = runs.tried ∙ ap (λ y. y.refusals + 1) (sym v);
+                given = (
+                  d.0,
+                  d.1,
+                  c ∙ ap status_code d.2,
+                  ap (λ y. cond (nat_eq y (status_code Good)) (length (g.requests t).bytes - k.lastp) (length (g.requests t).bytes)) (c ∙ ap status_code d.2)
+                      ∙ left_over d.0.status (length (g.requests t).bytes) k.lastp _ d.3,
+                  d.4,
+                );
+              });
+              ticket = refl;
+              of_unit = refl;
+              few_tries = runs.most;
+              all_within = refl;
+              all_caused = refl;
+            },
+            λ y. ap (λ y. y.ends) v ∙ ap (λ n. n + 1) runs.ends,
+          );
+          sense = unasked-entry g t k.sense x.log (End t) tt (sense_at g t k x.log Connected s e);
           absent = λ b. absurd (here b);
           since = subst (λ y. k.since ≤ y.clears) (sym v) s.since;
           before = s.before;
@@ -263,6 +268,7 @@ module _ (g : Plan) (t : ℕ) (k : Ticket) (x : Session) (a : IsAccepted (g.requ
               holds = runs.holds ∙ ap (λ y. holding (g.requests t).direction (data_of x.task.kept) y (g.requests t).bytes) h ∙ held-none (g.requests t).direction (data_of x.task.kept) (g.requests t).bytes;
             },
           );
+          sense = unasked-entry g t k.sense x.log (Refuse t st) tt (sense_at g t k x.log Connected s e);
           absent = λ b. absurd (here b);
           since = subst (λ y. k.since ≤ y.clears) (sym v) s.since;
           before = s.before;

@@ -15,7 +15,8 @@ use Rattle.logs_have_room.specs.Room.{entries}
 use Rattle.ticket_fate.specs.Tickets.{Plan, unit_of, opening, setting, Life, Unbuilt, Built, Linked, ToRequeue, Waits, Selected, Connected, Away, Lost, Rejected, Finished, Checked, Asks, AskStarts, AskConnected, AskLost, Asked, AtRogue, Ended, Unlinked, Freed, Ticket, course_at, report_of, view_for}
 use Rattle.ticket_fate.specs.Fates.{ReportFits, FreedReportFits, Fate, NeedsNone, TicketKept}
 use Rattle.ticket_fate.specs.Linked.{LinkKept, AwayTasks, UnitKept}
-use Rattle.ticket_fate.specs.Moves.{marked_ticket}
+use Rattle.ticket_fate.specs.Senses.{SenseFate}
+use Rattle.ticket_fate.specs.Moves.{marked_ticket, CanMark}
 use Rattle.ticket_fate.specs.Kept.{AllKept}
 use Rattle.ticket_fate.proofs.Views.{each-changed}
 
@@ -50,7 +51,7 @@ fate-marked g t Connected k v h = h
 fate-marked g t Away k v h = h
 fate-marked g t Lost k v h = report-marked g t k v Reset h
 fate-marked g t (Rejected st) k v h = h
-fate-marked g t (Finished o) k v h = report-marked g t k v o h
+fate-marked g t (Finished o) k v h = (report-marked g t k v o h.0, h.1)
 fate-marked g t Checked k v h = (report-marked g t k v Done h.0, h.1)
 fate-marked g t Asks k v h = (report-marked g t k v Done h.0, h.1)
 fate-marked g t AskStarts k v h = (report-marked g t k v Done h.0, h.1)
@@ -61,6 +62,29 @@ fate-marked g t AtRogue k v h = h
 fate-marked g t (Ended o) k v h = report-marked g t k v o h
 fate-marked g t (Unlinked o) k v h = report-marked g t k v o h
 fate-marked g t (Freed o) k v h = freed-marked g t k v o h
+
+sense-marked : (g : Plan) (t : ℕ) (l : Life) (k : Ticket) (v : View) → CanMark l → SenseFate g t l k v → SenseFate g t l (marked_ticket k) v
+sense-marked g t Unbuilt k v c h = h
+sense-marked g t Built k v c h = h
+sense-marked g t Linked k v c h = h
+sense-marked g t ToRequeue k v c h = h
+sense-marked g t Waits k v c h = h
+sense-marked g t Selected k v c h = h
+sense-marked g t Connected k v c h = h
+sense-marked g t Away k v c h = h
+sense-marked g t Lost k v c h = h
+sense-marked g t (Rejected st) k v c h = h
+sense-marked g t (Finished o) k v c h = h
+sense-marked g t Checked k v c h = absurd c
+sense-marked g t Asks k v c h = absurd c
+sense-marked g t AskStarts k v c h = absurd c
+sense-marked g t AskConnected k v c h = absurd c
+sense-marked g t AskLost k v c h = absurd c
+sense-marked g t Asked k v c h = absurd c
+sense-marked g t AtRogue k v c h = h
+sense-marked g t (Ended o) k v c h = absurd c
+sense-marked g t (Unlinked o) k v c h = absurd c
+sense-marked g t (Freed o) k v c h = absurd c
 
 -- a ticket whose life and task stay
 same-at : (ks : ℕ → Ticket) (x : ℕ) (k : Ticket) → k.life ≡ (ks x).life → k.task ≡ (ks x).task → (y : ℕ) → (y ≡ x) ⊎ (y ≢ x) → ((with_at ks x k y).life ≡ (ks y).life) × ((with_at ks x k y).task ≡ (ks y).task)
@@ -88,8 +112,8 @@ unit-same-life g ks x k u e f s h = record {
   waiting = λ y q a. let z = same-at ks x k e f y (same_or_not y x) in subst (IsWaiting u.plain) (sym z.1) (h.waiting y q (sym z.0 ∙ a));
 }
 
-pub marked-kept : (g : Plan) (x : ℕ) (k : Ticket) (log : List LogEntry) → TicketKept g x k log → TicketKept g x (marked_ticket k) log
-marked-kept g x k log s = record { fate = fate-marked g x k.life k (view_for g x log) s.fate; absent = s.absent; since = s.since; before = s.before }
+pub marked-kept : (g : Plan) (x : ℕ) (k : Ticket) (log : List LogEntry) → CanMark k.life → TicketKept g x k log → TicketKept g x (marked_ticket k) log
+marked-kept g x k log can s = record { fate = fate-marked g x k.life k (view_for g x log) s.fate; sense = sense-marked g x k.life k (view_for g x log) can s.sense; absent = s.absent; since = s.since; before = s.before }
 
 -- at the opening no ticket is built, and each unit is as the rig opens it
 unit-opens : (g : Plan) (n : ℕ) (ks : ℕ → Ticket) → ((x : ℕ) → (ks x).life ≡ Unbuilt) → ((x : ℕ) → (ks x).since ≡ 0) → ((x : ℕ) → (ks x).before ≡ 0) → UnitKept g n ks (unit_opened (g.units n))
@@ -99,6 +123,7 @@ unit-opens g n ks none zeros unlogged = record {
   plain = refl;
   each = λ t e. record {
     fate = subst (λ l. Fate g t l (ks t) (view_for g t [])) (sym (none t)) (record { refusals = refl; looks = refl; ends = refl; drops = refl; high = refl; senses = refl; answer = refl });
+    sense = subst (λ l. SenseFate g t l (ks t) (view_for g t [])) (sym (none t)) (record { senses = refl; early = refl; sense = refl; none = refl });
     absent = λ a. (refl, subst NeedsNone (sym (none t)) tt);
     since = omega (arith, zeros t);
     before = unlogged t;

@@ -1,6 +1,6 @@
 -- A reset of one target: the tasks of its units are dropped, and each unit is cleared. Tickets of other targets stay.
-use Rattle.std.proofs.Common.{◌≡◌, ◌≢◌, ℕ, ◌+◌, ◌-◌, ◌≤◌, Bool, true, false, List, [], ◌∷◌, ◌++◌, map, take, refl, ap, arith, sym, ◌∙◌, subst, Option, Some, None, ◌⊎◌, inl, inr, nat_eq, option_map}
-use Rattle.std.specs.Prelude.{slice_get, fold}
+use Rattle.std.proofs.Common.{◌≡◌, ◌≢◌, ℕ, ◌+◌, ◌-◌, ◌≤◌, nat_lt, Bool, true, false, List, [], ◌∷◌, ◌++◌, map, take, refl, ap, arith, sym, ◌∙◌, subst, Option, Some, None, ◌⊎◌, inl, inr, nat_eq, option_map}
+use Rattle.std.specs.Prelude.{slice_get, fold, ◌&&◌, ◌||◌}
 use Rattle.std.proofs.lemmas.Option.{slice_get-map}
 use Rattle.scsi_words.specs.declared.phases.kinds.Direction.TheVariants.{Out}
 use Rattle.cdb_codec.specs.Forms.{need_of}
@@ -13,24 +13,26 @@ use Rattle.unit_law.specs.declared.entry.LogEntry.TheVariants.{Drop, Clear}
 use Rattle.unit_law.specs.Request.{RequestData, command, received_of}
 use Rattle.unit_law.specs.Log.{Tally, View, run_log, with_at, noted, if_of, tally}
 use Rattle.unit_law.specs.Report.{UnitSetting, Fits, By, ByLoss, holding, data_of}
-use Rattle.unit_law.proofs.Views.{run-push, tally-push, tally-clear, same_or_not, ne-test, eq-test, with_at-same, with_at-other}
+use Rattle.unit_law.proofs.Views.{run-push, tally-push, tally-clear, same_or_not, eq-test, with_at-same, with_at-other}
 use Rattle.target_law.specs.Session.{Task}
 use Rattle.target_law.specs.Bytes.{Connection, away}
 use Rattle.target_law.specs.Sound.{IsWaiting}
 use Rattle.target_law.specs.Target as connection_state
-use Rattle.target_law.specs.Target.{LogicalUnit, ConnectionState, BusFree, TakingCommand, TaskConnected, RogueConnected, Target, flat, unit_at, drops, drops_by, unit_reset, slot_reset, parted, target_reset, leaves, unit_left}
+use Rattle.target_law.specs.Target.{LogicalUnit, ConnectionState, BusFree, TakingCommand, TaskConnected, RogueConnected, Target, flat, unit_at, with_unit, drops, drops_by, unit_reset, slot_reset, parted, target_reset, leaves, unit_left}
 use Rattle.logs_have_room.specs.Room.{entries}
-use Rattle.ticket_fate.specs.Tickets.{Plan, unit_of, opening, setting, Life, Unbuilt, Built, Linked, ToRequeue, Waits, Selected, Connected, Away, Lost, Rejected, Finished, Checked, Asks, AskStarts, AskConnected, AskLost, Asked, AtRogue, Ended, Unlinked, Freed, Ticket, with_life, course_at, report_of, view_for}
+use Rattle.ticket_fate.specs.Tickets.{Plan, unit_of, opening, setting, Life, Unbuilt, Built, Linked, ToRequeue, Waits, Selected, Connected, Away, Lost, Rejected, Finished, Checked, Asks, AskStarts, AskConnected, AskLost, Asked, AtRogue, Ended, Unlinked, Freed, is_live, Ticket, course_at, report_of, view_for}
 use Rattle.ticket_fate.specs.Fates.{OnlyRefusals, AllRefused, HasTask, ReportFits, FreedReportFits, Fate, NeedsNone, TicketKept}
 use Rattle.ticket_fate.specs.Moves.{parts_ticket}
-use Rattle.ticket_fate.specs.Linked.{IsPlan, HasTaskOf, HasNoTaskOf, AwayTasks, UnitKept, UnitsKept, TargetKept, LinkKept, lost_life, reset_ticket, reset_tickets}
-use Rattle.ticket_fate.proofs.Views.{grows-view, view-is, view-kept}
-use Rattle.ticket_fate.proofs.TicketSteps.{fate_at, needs, held-none}
+use Rattle.ticket_fate.specs.Senses.{Unasked, ToAsk, HasAsked, SenseOfReportFits, SenseFate, AsksTask}
+use Rattle.ticket_fate.specs.Linked.{IsPlan, HasTaskOf, HasNoTaskOf, AwayTasks, UnitKept, UnitsKept, TargetKept, WorkKept, LinkKept, ResetCause, ByBus, ByDevice, CanReset, lost_life, flagged, lost_ticket, reset_ticket, log_in, log_of, reset_tickets}
+use Rattle.ticket_fate.proofs.Views.{grows-view, view-is}
+use Rattle.ticket_fate.proofs.TicketSteps.{fate_at, sense_at, needs, held-none}
+use Rattle.ticket_fate.proofs.Asking.{unasked-entry}
 use Rattle.ticket_fate.proofs.ReceivedBytes.{dropped-same}
 use Rattle.ticket_fate.proofs.DataBytes.{pointed}
 use Rattle.ticket_fate.proofs.LastEntries.{drop-loss}
 use Rattle.ticket_fate.proofs.TaskLists.{lists-leave}
-use Rattle.ticket_fate.proofs.Targets.{at-lun, at, kept, runs}
+use Rattle.ticket_fate.proofs.Targets.{at-lun, at, kept, runs, unit-same, unit-other}
 use Rattle.ticket_fate.proofs.TaskEnds.{frees}
 use Rattle.unit_task.proofs.Keeping.{away-waits}
 
@@ -73,6 +75,15 @@ drops-in g n x tickets (j ∷ js) u h (inr at) q =
     no y [] d o = o
     no y (k ∷ ks) d (inl e) = d.0 e
     no y (k ∷ ks) d (inr o) = no y ks d.1 o
+
+-- nothing of sense was logged by drops and a Clear
+unasked-one : (g : Plan) (x : ℕ) (given : List ℕ) (b : Bool) (u : LogicalUnit) (k : Task) → Unasked given (view_for g x u.log) → Unasked given (view_for g x (drops_by b u k).log)
+unasked-one g x given true u k h = h
+unasked-one g x given false u k h = unasked-entry g x given u.log (Drop k.ticket k.high) tt h
+
+unasked-drops : (g : Plan) (x : ℕ) (given : List ℕ) (ks : List Task) (u : LogicalUnit) → Unasked given (view_for g x u.log) → Unasked given (view_for g x (fold drops u ks).log)
+unasked-drops g x given [] u h = h
+unasked-drops g x given (k ∷ ks) u h = unasked-drops g x given ks (drops u k) (unasked-one g x given k.senses u k h)
 
 -- the unit is what its log makes of it
 record Received (g : Plan) (n : ℕ) (k : Task) : Type 0 where
@@ -126,14 +137,14 @@ view-clear g x log =
 loss-more : (r : RequestData) (v : View) (q : Report) → ByLoss r v q → ByLoss r (more v) q
 loss-more r v q h = record { no_end = h.no_end; lost = h.lost; tries = h.tries; status = h.status; residual = h.residual; bytes = h.bytes }
 
-by-more : (o : Outcome) (s : UnitSetting) (r : RequestData) (v : View) (m b : Bool) (few many outside : ℕ) (q : Report) → few ≤ many → By o s r v (course_at m few b outside) q
+by-more : (o : Outcome) (s : UnitSetting) (r : RequestData) (v : View) (m a b : Bool) (few many outside : ℕ) (q : Report) → few ≤ many → By o s r v (course_at m few a outside) q
     → By o s r (more v) (course_at m many b outside) q
-by-more Done s r v m b few many outside q l (inl h) = inl (record { one_end = h.one_end; no_drop = h.no_drop; tries = h.tries; given = h.given })
-by-more Done s r v m b few many outside q l (inr h) =
+by-more Done s r v m a b few many outside q l (inl h) = inl (record { one_end = h.one_end; no_drop = h.no_drop; tries = h.tries; given = h.given })
+by-more Done s r v m a b few many outside q l (inr h) =
     inr (record { no_look = h.no_look; no_end = h.no_end; no_drop = h.no_drop; no_sense = h.no_sense; tries = h.tries; all_tries = h.all_tries; status = h.status; residual = h.residual; bytes = h.bytes })
-by-more Cut s r v m b few many outside q l h = (loss-more r v q h.0, h.1)
-by-more Reset s r v m b few many outside q l h = (loss-more r v q h.0, omega (arith, h.1))
-by-more NoTarget s r v m b few many outside q l h = record {
+by-more Cut s r v m a b few many outside q l h = (loss-more r v q h.0, h.1)
+by-more Reset s r v m a b few many outside q l h = (loss-more r v q h.0, omega (arith, h.1))
+by-more NoTarget s r v m a b few many outside q l h = record {
   absent = h.absent;
   no_refusal = h.no_refusal;
   no_look = h.no_look;
@@ -145,16 +156,16 @@ by-more NoTarget s r v m b few many outside q l h = record {
   residual = h.residual;
   bytes = h.bytes;
 }
-by-more Broken s r v m b few many outside q l h = h
+by-more Broken s r v m a b few many outside q l h = h
 
 -- a report that fits still fits after one more Clear, with as many Clears in its history or more
-fits-more : (g : Plan) (t : ℕ) (k : Ticket) (v : View) (o : Outcome) (few many outside : ℕ) → few ≤ many
+fits-more : (g : Plan) (t : ℕ) (k : Ticket) (v : View) (o : Outcome) (b : Bool) (few many outside : ℕ) → few ≤ many
     → Fits (setting g (unit_of g t)) t (g.requests t) v (course_at k.marked few k.bus_reset outside) (report_of t (g.requests t) k.status k.lastp k.tries k.buffer [] o)
-    → Fits (setting g (unit_of g t)) t (g.requests t) (more v) (course_at k.marked many k.bus_reset outside) (report_of t (g.requests t) k.status k.lastp k.tries k.buffer [] o)
-fits-more g t k v o few many outside l f = λ rogue.
+    → Fits (setting g (unit_of g t)) t (g.requests t) (more v) (course_at k.marked many b outside) (report_of t (g.requests t) k.status k.lastp k.tries k.buffer [] o)
+fits-more g t k v o b few many outside l f = λ rogue.
     let h = f rogue in
     record {
-      by = by-more o (setting g (unit_of g t)) (g.requests t) v k.marked k.bus_reset few many outside _ l h.by;
+      by = by-more o (setting g (unit_of g t)) (g.requests t) v k.marked k.bus_reset b few many outside _ l h.by;
       ticket = refl;
       of_unit = refl;
       few_tries = h.few_tries;
@@ -162,11 +173,11 @@ fits-more g t k v o few many outside l f = λ rogue.
       all_caused = refl;
     }
 
-report-more : (g : Plan) (t : ℕ) (k : Ticket) (v : View) (o : Outcome) → ReportFits g t k v o → ReportFits g t k (more v) o
-report-more g t k v o f = fits-more g t k v o (v.tally.clears - k.since) (v.tally.clears + 1 - k.since) 0 (omega arith) f
+report-more : (g : Plan) (t : ℕ) (k : Ticket) (v : View) (b : Bool) (o : Outcome) → ReportFits g t k v o → ReportFits g t (record k { bus_reset = b }) (more v) o
+report-more g t k v b o f = fits-more g t k v o b (v.tally.clears - k.since) (v.tally.clears + 1 - k.since) 0 (omega arith) f
 
-freed-more : (g : Plan) (t : ℕ) (k : Ticket) (v : View) (o : Outcome) → FreedReportFits g t k v o → FreedReportFits g t k (more v) o
-freed-more g t k v o f = fits-more g t k v o k.clears k.clears (k.before + (entries v.tally - k.logged)) (omega arith) f
+freed-more : (g : Plan) (t : ℕ) (k : Ticket) (v : View) (b : Bool) (o : Outcome) → FreedReportFits g t k v o → FreedReportFits g t (record k { bus_reset = b }) (more v) o
+freed-more g t k v b o f = fits-more g t k v o b k.clears k.clears (k.before + (entries v.tally - k.logged)) (omega arith) f
 
 refusals-more : (v : View) (n : ℕ) → OnlyRefusals v n → OnlyRefusals (more v) n
 refusals-more v n q = record { refusals = q.refusals; looks = q.looks; ends = q.ends; drops = q.drops; high = q.high; senses = q.senses; answer = q.answer }
@@ -174,14 +185,19 @@ refusals-more v n q = record { refusals = q.refusals; looks = q.looks; ends = q.
 all-refused-more : (r : RequestData) (tries : ℕ) (buffer : List ℕ) (v : View) → AllRefused r tries buffer v → AllRefused r tries buffer (more v)
 all-refused-more r tries buffer v h = record { entries = refusals-more v tries h.entries; holds = h.holds }
 
+-- a ticket after a reset of its target, its life apart
+abbrev lost_from : ResetCause → (ends : ℕ) → Life → Ticket → Ticket
+lost_from b ends l k = record k { life = lost_life b l; bus_reset = flagged b k.bus_reset ends l }
+
 -- a fate without a task, under one more Clear
-fate-more : (g : Plan) (t : ℕ) (l : Life) (k : Ticket) (v : View) → (l ≡ Connected → ⊥) → (l ≡ Away → ⊥) → k.since ≤ v.tally.clears → Fate g t l k v → Fate g t (lost_life l) (with_life k (lost_life l)) (more v)
-fate-more g t Unbuilt k v c a s h = refusals-more v 0 h
-fate-more g t Built k v c a s h = (h.0, all-refused-more _ _ _ v h.1)
-fate-more g t Linked k v c a s h = (h.0, all-refused-more _ _ _ v h.1)
-fate-more g t ToRequeue k v c a s h = (h.0, all-refused-more _ _ _ v h.1)
-fate-more g t Waits k v c a s h = record { entries = refusals-more v v.tally.refusals h.entries; tried = h.tried; most = h.most; holds = h.holds; last = h.last; saves = h.saves }
-fate-more g t Selected k v c a s h = λ rogue. record {
+fate-more : (g : Plan) (t : ℕ) (b : ResetCause) (ends : ℕ) (l : Life) (k : Ticket) (v : View) → (l ≡ Connected → ⊥) → (l ≡ Away → ⊥) → k.since ≤ v.tally.clears → Fate g t l k v
+    → Fate g t (lost_life b l) (lost_from b ends l k) (more v)
+fate-more g t b e Unbuilt k v c a s h = refusals-more v 0 h
+fate-more g t b e Built k v c a s h = (h.0, all-refused-more _ _ _ v h.1)
+fate-more g t b e Linked k v c a s h = (h.0, all-refused-more _ _ _ v h.1)
+fate-more g t b e ToRequeue k v c a s h = (h.0, all-refused-more _ _ _ v h.1)
+fate-more g t b e Waits k v c a s h = record { entries = refusals-more v v.tally.refusals h.entries; tried = h.tried; most = h.most; holds = h.holds; last = h.last; saves = h.saves }
+fate-more g t b e Selected k v c a s h = λ rogue. record {
   by = (
     record {
       no_end = h.entries.ends;
@@ -199,44 +215,111 @@ fate-more g t Selected k v c a s h = λ rogue. record {
   all_within = refl;
   all_caused = refl;
 }
-fate-more g t Connected k v c a s h = absurd (c refl)
-fate-more g t Away k v c a s h = absurd (a refl)
-fate-more g t Lost k v c a s h = report-more g t k v Reset h
-fate-more g t (Rejected st) k v c a s h = (h.0, h.1, h.2, h.3, all-refused-more _ _ _ v h.4)
-fate-more g t (Finished o) k v c a s h = report-more g t k v o h
-fate-more g t Checked k v c a s h = (report-more g t k v Done h.0, h.1)
-fate-more g t Asks k v c a s h = (report-more g t k v Done h.0, h.1)
-fate-more g t AskStarts k v c a s h = (report-more g t k v Done h.0, h.1)
-fate-more g t AskConnected k v c a s h = (report-more g t k v Done h.0, h.1)
-fate-more g t AskLost k v c a s h = (report-more g t k v Done h.0, h.1)
-fate-more g t Asked k v c a s h = (report-more g t k v Done h.0, h.1)
-fate-more g t AtRogue k v c a s h = h
-fate-more g t (Ended o) k v c a s h = report-more g t k v o h
-fate-more g t (Unlinked o) k v c a s h = report-more g t k v o h
-fate-more g t (Freed o) k v c a s h = freed-more g t k v o h
+fate-more g t b e Connected k v c a s h = absurd (c refl)
+fate-more g t b e Away k v c a s h = absurd (a refl)
+fate-more g t b e Lost k v c a s h = report-more g t k v (flagged b k.bus_reset e Lost) Reset h
+fate-more g t b e (Rejected st) k v c a s h = (h.0, h.1, h.2, h.3, all-refused-more _ _ _ v h.4)
+fate-more g t b e (Finished o) k v c a s h = (report-more g t k v (flagged b k.bus_reset e (Finished o)) o h.0, h.1)
+fate-more g t ByBus e Asks k v c a s h = (report-more g t k v (flagged ByBus k.bus_reset e Asks) Done h.0, h.1)
+fate-more g t ByDevice e Asks k v c a s h = (report-more g t k v (flagged ByDevice k.bus_reset e Asks) Done h.0, h.1)
+fate-more g t b e Checked k v c a s h = (report-more g t k v (flagged b k.bus_reset e Checked) Done h.0, h.1)
+fate-more g t b e AskStarts k v c a s h = (report-more g t k v (flagged b k.bus_reset e AskStarts) Done h.0, h.1)
+fate-more g t b e AskConnected k v c a s h = (report-more g t k v (flagged b k.bus_reset e AskConnected) Done h.0, h.1)
+fate-more g t b e AskLost k v c a s h = (report-more g t k v (flagged b k.bus_reset e AskLost) Done h.0, h.1)
+fate-more g t b e Asked k v c a s h = (report-more g t k v (flagged b k.bus_reset e Asked) Done h.0, h.1)
+fate-more g t b e AtRogue k v c a s h = h
+fate-more g t b e (Ended o) k v c a s h = report-more g t k v (flagged b k.bus_reset e (Ended o)) o h
+fate-more g t b e (Unlinked o) k v c a s h = report-more g t k v (flagged b k.bus_reset e (Unlinked o)) o h
+fate-more g t b e (Freed o) k v c a s h = freed-more g t k v (flagged b k.bus_reset e (Freed o)) o h
 
-needs-lost : (l : Life) → NeedsNone l → NeedsNone (lost_life l)
-needs-lost Selected h = h
-needs-lost Connected h = h
-needs-lost Away h = h
-needs-lost Lost h = h
-needs-lost Unbuilt h = tt
-needs-lost Built h = tt
-needs-lost Linked h = tt
-needs-lost ToRequeue h = tt
-needs-lost Waits h = tt
-needs-lost (Rejected st) h = tt
-needs-lost (Finished o) h = tt
-needs-lost Checked h = tt
-needs-lost Asks h = tt
-needs-lost AskStarts h = tt
-needs-lost AskConnected h = tt
-needs-lost AskLost h = tt
-needs-lost Asked h = tt
-needs-lost AtRogue h = tt
-needs-lost (Ended o) h = tt
-needs-lost (Unlinked o) h = tt
-needs-lost (Freed o) h = tt
+-- so with the sense
+unasked-more : (given : List ℕ) (v : View) → Unasked given v → Unasked given (more v)
+unasked-more given v h = record { senses = h.senses; early = h.early; sense = h.sense; none = h.none }
+
+to-ask-more : (g : Plan) (given : List ℕ) (marked : Bool) (v : View) → ToAsk g given marked v → ToAsk g given marked (more v)
+to-ask-more g given marked v h = record { unasked = unasked-more given v h.unasked; autosense = h.autosense; checked = h.checked; unmarked = h.unmarked }
+
+has-asked-more : (g : Plan) (area : List ℕ) (marked : Bool) (v : View) → HasAsked g area marked v → HasAsked g area marked (more v)
+has-asked-more g area marked v h = record { senses = h.senses; early = h.early; sense = h.sense; autosense = h.autosense; checked = h.checked; unmarked = h.unmarked }
+
+sense-fits-more : (g : Plan) (t : ℕ) (k : Ticket) (v : View) (b : Bool) (o : Outcome) → (b ≡ false → k.bus_reset ≡ false) → SenseOfReportFits g t k v o → SenseOfReportFits g t (record k { bus_reset = b }) (more v) o
+sense-fits-more g t k v b o l f = λ rogue.
+    let h = f rogue in
+    record {
+      at_most_one = h.at_most_one;
+      none_early = h.none_early;
+      given = h.given;
+      none_lost = h.none_lost;
+      only_asked = λ z. let a = h.only_asked z in record { autosense = a.autosense; checked = a.checked; unmarked = a.unmarked };
+      asked = λ a z. h.asked (record { autosense = a.autosense; checked = a.checked; unmarked = a.unmarked }) (l z);
+    }
+
+or-left : (a b : Bool) → (a || b) ≡ false → a ≡ false
+or-left true b e = cc
+or-left false b e = refl
+
+or-right : (a b : Bool) → b ≡ true → (a || b) ≡ true
+or-right true b e = refl
+or-right false b e = e
+
+flag-left : (b : ResetCause) (flag : Bool) (ends : ℕ) (l : Life) → flagged b flag ends l ≡ false → flag ≡ false
+flag-left ByBus flag ends l e = or-left flag _ e
+flag-left ByDevice flag ends l e = e
+
+-- a ticket with End that is live is flagged by a bus reset
+flag-set : (flag : Bool) (ends : ℕ) (l : Life) → is_live l ≡ true → ends ≡ 1 → flagged ByBus flag ends l ≡ true
+flag-set flag ends l e f = or-right flag (nat_lt 0 ends && is_live l) (ap (λ n. nat_lt 0 n && is_live l) f ∙ e)
+
+sense-more : (g : Plan) (t : ℕ) (b : ResetCause) (l : Life) (k : Ticket) (v : View) → CanReset b l → SenseFate g t l k v → SenseFate g t (lost_life b l) (lost_from b v.tally.ends l k) (more v)
+sense-more g t b Unbuilt k v c h = unasked-more [] v h
+sense-more g t b Built k v c h = unasked-more k.sense v h
+sense-more g t b Linked k v c h = unasked-more k.sense v h
+sense-more g t b ToRequeue k v c h = unasked-more k.sense v h
+sense-more g t b Waits k v c h = unasked-more k.sense v h
+sense-more g t b Selected k v c h = unasked-more k.sense v h
+sense-more g t b Connected k v c h = unasked-more k.sense v h
+sense-more g t b Away k v c h = unasked-more k.sense v h
+sense-more g t b Lost k v c h = unasked-more k.sense v h
+sense-more g t b (Rejected st) k v c h = unasked-more k.sense v h
+sense-more g t b (Finished o) k v c h = unasked-more k.sense v h
+sense-more g t b Checked k v c h = to-ask-more g k.sense k.marked v h
+sense-more g t ByBus Asks k v c h = (to-ask-more g k.sense k.marked v h.0, flag-set k.bus_reset v.tally.ends Asks refl h.0.checked.0)
+sense-more g t ByDevice Asks k v c h = (to-ask-more g k.sense k.marked v h.0, h.1)
+sense-more g t ByBus AskStarts k v c h = (to-ask-more g k.sense k.marked v h.0, flag-set k.bus_reset v.tally.ends AskStarts refl h.0.checked.0)
+sense-more g t ByDevice AskStarts k v c h = absurd c
+sense-more g t ByBus AskConnected k v c h = (to-ask-more g k.sense k.marked v h, flag-set k.bus_reset v.tally.ends AskConnected refl h.checked.0)
+sense-more g t ByDevice AskConnected k v c h = absurd c
+sense-more g t ByBus AskLost k v c h = (to-ask-more g k.sense k.marked v h.0, flag-set k.bus_reset v.tally.ends AskLost refl h.0.checked.0)
+sense-more g t ByDevice AskLost k v c h = (to-ask-more g k.sense k.marked v h.0, h.1)
+sense-more g t b Asked k v c h = has-asked-more g k.area k.marked v h
+sense-more g t b AtRogue k v c h = tt
+sense-more g t b (Ended o) k v c h = sense-fits-more g t k v (flagged b k.bus_reset v.tally.ends (Ended o)) o (flag-left b k.bus_reset v.tally.ends (Ended o)) h
+sense-more g t b (Unlinked o) k v c h = sense-fits-more g t k v (flagged b k.bus_reset v.tally.ends (Unlinked o)) o (flag-left b k.bus_reset v.tally.ends (Unlinked o)) h
+sense-more g t b (Freed o) k v c h = sense-fits-more g t k v (flagged b k.bus_reset v.tally.ends (Freed o)) o (flag-left b k.bus_reset v.tally.ends (Freed o)) h
+
+needs-lost : (b : ResetCause) (l : Life) → NeedsNone l → NeedsNone (lost_life b l)
+needs-lost b Unbuilt h = tt
+needs-lost b Built h = tt
+needs-lost b Linked h = tt
+needs-lost b ToRequeue h = tt
+needs-lost b Waits h = tt
+needs-lost b Selected h = h
+needs-lost b Connected h = h
+needs-lost b Away h = h
+needs-lost b Lost h = h
+needs-lost b (Rejected st) h = tt
+needs-lost b (Finished o) h = tt
+needs-lost b Checked h = tt
+needs-lost ByBus Asks h = tt
+needs-lost ByDevice Asks h = tt
+needs-lost b AskStarts h = tt
+needs-lost b AskConnected h = tt
+needs-lost b AskLost h = tt
+needs-lost b Asked h = tt
+needs-lost b AtRogue h = tt
+needs-lost b (Ended o) h = tt
+needs-lost b (Unlinked o) h = tt
+needs-lost b (Freed o) h = tt
 
 away_or_not : (l : Life) → (l ≡ Away) ⊎ (l ≡ Away → ⊥)
 away_or_not Away = inl refl
@@ -261,28 +344,29 @@ away_or_not (Ended o) = inr (λ e. cc)
 away_or_not (Unlinked o) = inr (λ e. cc)
 away_or_not (Freed o) = inr (λ e. cc)
 
-never-away : (l : Life) → lost_life l ≡ Away → ⊥
-never-away Unbuilt e = cc
-never-away Built e = cc
-never-away Linked e = cc
-never-away ToRequeue e = cc
-never-away Waits e = cc
-never-away Selected e = cc
-never-away Connected e = cc
-never-away Away e = cc
-never-away Lost e = cc
-never-away (Rejected st) e = cc
-never-away (Finished o) e = cc
-never-away Checked e = cc
-never-away Asks e = cc
-never-away AskStarts e = cc
-never-away AskConnected e = cc
-never-away AskLost e = cc
-never-away Asked e = cc
-never-away AtRogue e = cc
-never-away (Ended o) e = cc
-never-away (Unlinked o) e = cc
-never-away (Freed o) e = cc
+never-away : (b : ResetCause) (l : Life) → lost_life b l ≡ Away → ⊥
+never-away b Unbuilt e = cc
+never-away b Built e = cc
+never-away b Linked e = cc
+never-away b ToRequeue e = cc
+never-away b Waits e = cc
+never-away b Selected e = cc
+never-away b Connected e = cc
+never-away b Away e = cc
+never-away b Lost e = cc
+never-away b (Rejected st) e = cc
+never-away b (Finished o) e = cc
+never-away b Checked e = cc
+never-away ByBus Asks e = cc
+never-away ByDevice Asks e = cc
+never-away b AskStarts e = cc
+never-away b AskConnected e = cc
+never-away b AskLost e = cc
+never-away b Asked e = cc
+never-away b AtRogue e = cc
+never-away b (Ended o) e = cc
+never-away b (Unlinked o) e = cc
+never-away b (Freed o) e = cc
 
 -- drops clear nothing
 drop-clears : (x : ℕ) (k : Tally) (y high : ℕ) → (noted x k (Drop y high)).clears ≡ k.clears
@@ -296,7 +380,7 @@ clears-one : (g : Plan) (x : ℕ) (b : Bool) (w : LogicalUnit) (j : Task) → (v
 clears-one g x true w j = refl
 clears-one g x false w j = ap (λ k. k.clears) (tally-push x w.log (Drop j.ticket j.high)) ∙ drop-clears x (tally x w.log) j.ticket j.high
 
-clears-same : (g : Plan) (x : ℕ) (ks : List Task) (w : LogicalUnit) → (view_for g x (fold drops w ks).log).tally.clears ≡ (view_for g x w.log).tally.clears
+pub clears-same : (g : Plan) (x : ℕ) (ks : List Task) (w : LogicalUnit) → (view_for g x (fold drops w ks).log).tally.clears ≡ (view_for g x w.log).tally.clears
 clears-same g x [] w = refl
 clears-same g x (k ∷ ks) w = clears-same g x ks (drops w k) ∙ clears-one g x k.senses w k
 
@@ -304,15 +388,19 @@ clears-kept : (g : Plan) (x : ℕ) (ks : List Task) (w : LogicalUnit) → (view_
 clears-kept g x ks w = omega (arith, clears-same g x ks w)
 
 -- a ticket of a unit that is reset, where none of the unit's tickets is connected any more
-module _ (g : Plan) (n : ℕ) (tickets : ℕ → Ticket) (u : LogicalUnit) (h : UnitKept g n tickets u) (none : (x : ℕ) → unit_of g x ≡ n → (tickets x).life ≡ Connected → ⊥) where
+module _ (g : Plan) (n : ℕ) (b : ResetCause) (tickets : ℕ → Ticket) (u : LogicalUnit) (h : UnitKept g n tickets u) (none : (x : ℕ) → unit_of g x ≡ n → (tickets x).life ≡ Connected → ⊥)
+    (can : (x : ℕ) → unit_of g x ≡ n → CanReset b (tickets x).life) where
   abbrev log : List LogEntry
   log = (fold drops u u.tasks).log
+
+  abbrev lost_at : ℕ → Life → Ticket
+  lost_at x l = lost_from b (tally x u.log).ends l (tickets x)
 
   absent-from : (x : ℕ) (ks : List Task) → ((tickets x).life ≡ Away → ⊥) → AwayTasks g n tickets ks → HasNoTaskOf x ks
   absent-from x [] d t = tt
   absent-from x (k ∷ ks) d t = ((λ e. d (ap (λ z. (tickets z).life) (sym e) ∙ t.0.life)), absent-from x ks d t.2)
 
-  reset-at : (x : ℕ) → unit_of g x ≡ n → ((tickets x).life ≡ Away) ⊎ ((tickets x).life ≡ Away → ⊥) → TicketKept g x (with_life (tickets x) (lost_life (tickets x).life)) (log ++ Clear ∷ [])
+  reset-at : (x : ℕ) → unit_of g x ≡ n → ((tickets x).life ≡ Away) ⊎ ((tickets x).life ≡ Away → ⊥) → TicketKept g x (lost_at x (tickets x).life) (log ++ Clear ∷ [])
   reset-at x e (inl away) =
       let s = h.each x e in
       let k = tickets x in
@@ -320,9 +408,8 @@ module _ (g : Plan) (n : ℕ) (tickets : ℕ → Ticket) (u : LogicalUnit) (h : 
       let d = drops-in g n x tickets u.tasks u h.lists.tasks (h.lists.whole x e away) f.0 in
       let clears : (view_for g x u.log).tally.clears ≤ (view_for g x log).tally.clears = clears-kept g x u.tasks u in
       let v = view-clear g x log in
-      let l : lost_life k.life ≡ Lost = ap lost_life away in
       record {
-        fate = subst (λ m. Fate g x m (with_life k m) (view_for g x (log ++ Clear ∷ []))) (sym l) (subst (Fate g x Lost (with_life k Lost)) (sym v) (λ rogue. record {
+        fate = subst (λ l. Fate g x (lost_life b l) (lost_at x l) (view_for g x (log ++ Clear ∷ []))) (sym away) (subst (Fate g x Lost (lost_at x Away)) (sym v) (λ rogue. record {
           by = (loss-more (g.requests x) (view_for g x log) _ d.loss, let since = s.since in omega arith);
           ticket = refl;
           of_unit = refl;
@@ -330,6 +417,8 @@ module _ (g : Plan) (n : ℕ) (tickets : ℕ → Ticket) (u : LogicalUnit) (h : 
           all_within = refl;
           all_caused = refl;
         }));
+        sense = subst (λ l. SenseFate g x (lost_life b l) (lost_at x l) (view_for g x (log ++ Clear ∷ []))) (sym away)
+            (subst (Unasked k.sense) (sym v) (unasked-more k.sense (view_for g x log) (unasked-drops g x k.sense u.tasks u (sense_at g x k u.log Away s away))));
         absent = λ a. absurd (needs g x k u.log Away s away (λ z. z) a);
         since = subst (λ z. k.since ≤ z.tally.clears) (sym v) (let since = s.since in omega arith);
         before = s.before;
@@ -337,25 +426,26 @@ module _ (g : Plan) (n : ℕ) (tickets : ℕ → Ticket) (u : LogicalUnit) (h : 
   reset-at x e (inr d) =
       let s = h.each x e in
       let k = tickets x in
-      let y = view-kept g x k u.log log (others g x u.tasks u (absent-from x u.tasks d h.lists.tasks)) s in
-      let v = view-clear g x log in
+      let same : view_for g x log ≡ view_for g x u.log = others g x u.tasks u (absent-from x u.tasks d h.lists.tasks) in
+      let v : view_for g x (log ++ Clear ∷ []) ≡ more (view_for g x u.log) = view-clear g x log ∙ ap more same in
       record {
-        fate = subst (Fate g x (lost_life k.life) (with_life k (lost_life k.life))) (sym v) (fate-more g x k.life k (view_for g x log) (none x e) d y.since y.fate);
-        absent = λ a. let z = y.absent a in (ap (λ m. m.tally.refusals) v ∙ z.0, needs-lost k.life z.1);
-        since = subst (λ z. k.since ≤ z.tally.clears) (sym v) (let since = y.since in omega arith);
-        before = y.before;
+        fate = subst (Fate g x (lost_life b k.life) (lost_at x k.life)) (sym v) (fate-more g x b (tally x u.log).ends k.life k (view_for g x u.log) (none x e) d s.since s.fate);
+        sense = subst (SenseFate g x (lost_life b k.life) (lost_at x k.life)) (sym v) (sense-more g x b k.life k (view_for g x u.log) (can x e) s.sense);
+        absent = λ a. let z = s.absent a in (ap (λ m. m.tally.refusals) v ∙ z.0, needs-lost b k.life z.1);
+        since = subst (λ z. k.since ≤ z.tally.clears) (sym v) (let since = s.since in omega arith);
+        before = s.before;
       }
 
   -- the tickets of the unit are reset by some function that resets each of them
-  pub unit-resets : (new : ℕ → Ticket) → ((x : ℕ) → unit_of g x ≡ n → new x ≡ with_life (tickets x) (lost_life (tickets x).life)) → UnitKept g n new (unit_reset u)
+  pub unit-resets : (new : ℕ → Ticket) → ((x : ℕ) → unit_of g x ≡ n → new x ≡ lost_ticket b (tally x u.log).ends (tickets x)) → UnitKept g n new (unit_reset u)
   unfolding unit_reset
   unit-resets new same = record {
     rig = rig-drops u.tasks u ∙ h.rig;
     plain = ap cleared (drops-plain g n u.tasks u (received-all g n tickets u.tasks u.log h.lists.tasks h.each) h.plain)
         ∙ sym (ap (λ y. y.unit) (run-push g.requests (opening g n) log Clear));
     each = λ x e. subst (λ k. TicketKept g x k (log ++ Clear ∷ [])) (sym (same x e)) (reset-at x e (away_or_not (tickets x).life));
-    lists = record { tasks = tt; whole = λ x e a. absurd (never-away (tickets x).life (ap (λ k. k.life) (sym (same x e)) ∙ a)) };
-    waiting = λ x e a. absurd (never-away (tickets x).life (ap (λ k. k.life) (sym (same x e)) ∙ a));
+    lists = record { tasks = tt; whole = λ x e a. absurd (never-away b (tickets x).life (ap (λ k. k.life) (sym (same x e)) ∙ a)) };
+    waiting = λ x e a. absurd (never-away b (tickets x).life (ap (λ k. k.life) (sym (same x e)) ∙ a));
   }
 
 -- tickets that are the same by name
@@ -374,17 +464,7 @@ unit-agrees g n old new u f h = record {
   waiting = λ x e a. subst (λ k. IsWaiting u.plain k.task) (sym (f x e)) (h.waiting x e (ap (λ k. k.life) (sym (f x e)) ∙ a));
 }
 
--- a reset of target i leaves every other target
-pub others-stay : (g : Plan) (count i j : ℕ) (tickets : ℕ → Ticket) (t : Target) → j ≢ i → UnitsKept g count j tickets t → UnitsKept g count j (reset_tickets g i tickets) t
-others-stay g count i j tickets t d h = λ n less target.
-    let old = h n less target in (
-      old.0,
-      old.1,
-      unit-agrees g n tickets (reset_tickets g i tickets) old.0
-          (λ x e. let f : (g.units (unit_of g x)).target ≢ i = λ q. d (sym target ∙ ap (λ z. (g.units z).target) (sym e) ∙ q) in ap (λ b. reset_ticket b (tickets x)) (ne-test _ i f)) old.2,
-    )
-
-slot-there : (us : List (Option LogicalUnit)) (lun : ℕ) (u : LogicalUnit) → unit_at us lun ≡ Some u → unit_at (map slot_reset us) lun ≡ Some (unit_reset u)
+pub slot-there : (us : List (Option LogicalUnit)) (lun : ℕ) (u : LogicalUnit) → unit_at us lun ≡ Some u → unit_at (map slot_reset us) lun ≡ Some (unit_reset u)
 unfolding unit_at
 slot-there us lun u e = ap flat (slice_get-map slot_reset us lun) ∙ by (slice_get us lun) e
   where
@@ -396,44 +476,74 @@ slot-there us lun u e = ap flat (slice_get-map slot_reset us lun) ∙ by (slice_
     by (Some None) e = cc
     by None e = cc
 
--- every unit of a target that has no connected ticket is reset
-pub units-reset : (g : Plan) (count i : ℕ) (tickets : ℕ → Ticket) (us : List (Option LogicalUnit)) (l m : ConnectionState) → UnitsKept g count i tickets (record { units = us; link = l })
-    → ((x : ℕ) → (g.units (unit_of g x)).target ≡ i → (tickets x).life ≡ Connected → ⊥)
-    → UnitsKept g count i (reset_tickets g i tickets) (record { units = map slot_reset us; link = m })
-units-reset g count i tickets us l m h none = λ n less target.
+-- what a reset makes of a ticket of the target, where the log of its unit is known
+pub reset-here : (g : Plan) (i : ℕ) (b : ResetCause) (t : Target) (tickets : ℕ → Ticket) (x : ℕ) (u : LogicalUnit) → (g.units (unit_of g x)).target ≡ i → unit_at t.units (g.units (unit_of g x)).lun ≡ Some u
+    → reset_tickets g i b t tickets x ≡ lost_ticket b (tally x u.log).ends (tickets x)
+reset-here g i b t tickets x u f e =
+    ap (λ z. reset_ticket z b (tally x (log_of g t x)).ends (tickets x)) (ap (λ z. nat_eq z i) f ∙ eq-test i)
+    ∙ ap (λ o. lost_ticket b (tally x (log_in o)).ends (tickets x)) e
+
+-- every unit of a target that has no connected ticket is reset; `t` is the target whose logs the tickets are judged by, which are those of the units
+pub units-reset : (g : Plan) (count i : ℕ) (b : ResetCause) (tickets : ℕ → Ticket) (t : Target) (us : List (Option LogicalUnit)) (l m : ConnectionState) → UnitsKept g count i tickets (record { units = us; link = l })
+    → ((x : ℕ) → (g.units (unit_of g x)).target ≡ i → (tickets x).life ≡ Connected → ⊥) → ((x : ℕ) → (g.units (unit_of g x)).target ≡ i → CanReset b (tickets x).life)
+    → ((lun : ℕ) (v : LogicalUnit) → unit_at us lun ≡ Some v → (w : LogicalUnit) × (unit_at t.units lun ≡ Some w) × (w.log ≡ v.log))
+    → UnitsKept g count i (reset_tickets g i b t tickets) (record { units = map slot_reset us; link = m })
+units-reset g count i b tickets t us l m h none can logs = λ n less target.
     let old = h n less target in (
       unit_reset old.0,
       slot-there us (g.units n).lun old.0 old.1,
-      unit-resets g n tickets old.0 old.2 (λ x e c. none x (ap (λ z. (g.units z).target) e ∙ target) c) (reset_tickets g i tickets)
-          (λ x e. let f : (g.units (unit_of g x)).target ≡ i = ap (λ z. (g.units z).target) e ∙ target in
-          ap (λ b. reset_ticket b (tickets x)) (ap (λ z. nat_eq z i) f ∙ eq-test i)),
+      unit-resets g n b tickets old.0 old.2 (λ x e c. none x (ap (λ z. (g.units z).target) e ∙ target) c) (λ x e. can x (ap (λ z. (g.units z).target) e ∙ target)) (reset_tickets g i b t tickets)
+          (λ x e.
+          let f : (g.units (unit_of g x)).target ≡ i = ap (λ z. (g.units z).target) e ∙ target in
+          let w = logs (g.units n).lun old.0 old.1 in
+          reset-here g i b t tickets x w.0 f (ap (λ z. unit_at t.units (g.units z).lun) e ∙ w.1) ∙ ap (λ z. lost_ticket b (tally x z).ends (tickets x)) w.2),
     )
 
-module _ (g : Plan) (count : ℕ) (plan : IsPlan g count) (i : ℕ) (tickets : ℕ → Ticket) (t : Target) (h : TargetKept g count i tickets t) where
+same-logs : (t : Target) (lun : ℕ) (v : LogicalUnit) → unit_at t.units lun ≡ Some v → (w : LogicalUnit) × (unit_at t.units lun ≡ Some w) × (w.log ≡ v.log)
+same-logs t lun v e = (v, e, refl)
+
+-- one unit's tasks change, and no log
+left-logs : (t : Target) (at : ℕ) (u : LogicalUnit) (k : Task) → unit_at t.units at ≡ Some u → (lun : ℕ) (v : LogicalUnit) → unit_at (with_unit t.units at (unit_left u k)) lun ≡ Some v
+    → (w : LogicalUnit) × (unit_at t.units lun ≡ Some w) × (w.log ≡ v.log)
+left-logs t at u k there lun v e = by (same_or_not lun at)
+  where
+    some : (a b : LogicalUnit) → Some a ≡ Some b → a ≡ b
+    some a b e = cc
+
+    by : (lun ≡ at) ⊎ (lun ≢ at) → (w : LogicalUnit) × (unit_at t.units lun ≡ Some w) × (w.log ≡ v.log)
+    by (inl q) =
+        let f : unit_left u k ≡ v = some (unit_left u k) v (sym (ap (unit_at (with_unit t.units at (unit_left u k))) q ∙ unit-same t.units at u (unit_left u k) there) ∙ e) in
+        (u, ap (unit_at t.units) q ∙ there, ap (λ z. z.log) f)
+    by (inr d) = (v, sym (unit-other t.units at lun (unit_left u k) d) ∙ e, refl)
+
+module _ (g : Plan) (count : ℕ) (plan : IsPlan g count) (i : ℕ) (b : ResetCause) (tickets : ℕ → Ticket) (t : Target) (h : TargetKept g count i tickets t)
+    (can : (x : ℕ) → (g.units (unit_of g x)).target ≡ i → CanReset b (tickets x).life) where
   -- no task of it is connected
   pub idle-reset : ((l : ConnectionState) → l ≡ t.link → parted l t ≡ t) → ((x : ℕ) → (g.units (unit_of g x)).target ≡ i → (tickets x).life ≡ Connected → ⊥)
-      → TargetKept g count i (reset_tickets g i tickets) (target_reset t)
+      → TargetKept g count i (reset_tickets g i b t tickets) (target_reset t)
   unfolding target_reset
   idle-reset f none = record {
-    units = units-reset g count i tickets (parted t.link t).units t.link BusFree (subst (λ z. UnitsKept g count i tickets (record { units = z.units; link = t.link })) (sym (f t.link refl)) h.units) none;
+    units = units-reset g count i b tickets t (parted t.link t).units t.link BusFree (subst (λ z. UnitsKept g count i tickets (record { units = z.units; link = t.link })) (sym (f t.link refl)) h.units) none can
+        (subst (λ z. (lun : ℕ) (v : LogicalUnit) → unit_at z.units lun ≡ Some v → (w : LogicalUnit) × (unit_at t.units lun ≡ Some w) × (w.log ≡ v.log)) (sym (f t.link refl)) (same-logs t));
     link = tt;
   }
 
   -- a task of it is connected
-  pub work-reset : (c : Connection) → t.link ≡ TaskConnected c → (u : LogicalUnit) → unit_at t.units c.lun ≡ Some u
+  pub work-reset : (c : Connection) → t.link ≡ TaskConnected c → c.task.senses ≡ false → (u : LogicalUnit) → unit_at t.units c.lun ≡ Some u
       → ((x : ℕ) → (g.units (unit_of g x)).target ≡ i → (tickets x).life ≡ Connected → x ≡ c.task.ticket)
-      → TargetKept g count i (reset_tickets g i (with_at tickets c.task.ticket (parts_ticket tickets c))) (target_reset t)
+      → TargetKept g count i (reset_tickets g i b t (with_at tickets c.task.ticket (parts_ticket tickets c))) (target_reset t)
   unfolding target_reset
-  work-reset c working u there only =
+  work-reset c working free u there only =
       let p : parted t.link t ≡ leaves t c u = ap (λ l. parted l t) working ∙ at-lun t c.lun (leaves t c) u there in
-      let w = at g count plan i tickets t h c working u there in
-      let unit = kept g count plan i tickets t h c working u there in
-      let q = runs g count plan i tickets t h c working u there in
+      let w = at g count plan i tickets t h c working free u there in
+      let unit = kept g count plan i tickets t h c working free u there in
+      let q = runs g count plan i tickets t h c working free u there in
       let k = parts_ticket tickets c in
-      let left = frees g count plan i tickets t h c working u there k (unit_left u c.task) (record {
+      let left = frees g count plan i tickets t h c working free u there k (unit_left u c.task) (record {
         grows = inl refl;
         stands = record {
           fate = (pointed g.retries (g.requests c.task.ticket) _ _ _ c.task (view_for g c.task.ticket u.log) c.task.saved c.task.saved false q, refl, refl);
+          sense = sense_at g c.task.ticket (tickets c.task.ticket) u.log Connected (unit.each c.task.ticket refl) w.life;
           absent = λ a. absurd (needs g c.task.ticket (tickets c.task.ticket) u.log Connected (unit.each c.task.ticket refl) w.life (λ z. z) a);
           since = (unit.each c.task.ticket refl).since;
           before = (unit.each c.task.ticket refl).before;
@@ -445,9 +555,11 @@ module _ (g : Plan) (count : ℕ) (plan : IsPlan g count) (i : ℕ) (tickets : �
         waits = λ a. away-waits u.plain c.task (w.sound u there).task;
       }) in
       record {
-        units = units-reset g count i (with_at tickets c.task.ticket k) (parted t.link t).units BusFree BusFree
+        units = units-reset g count i b (with_at tickets c.task.ticket k) t (parted t.link t).units BusFree BusFree
             (subst (λ z. UnitsKept g count i (with_at tickets c.task.ticket k) (record { units = z.units; link = BusFree })) (sym p) left.units)
-            (λ x e a. gone x e a (same_or_not x c.task.ticket));
+            (λ x e a. gone x e a (same_or_not x c.task.ticket))
+            (λ x e. may x e (same_or_not x c.task.ticket))
+            (subst (λ z. (lun : ℕ) (v : LogicalUnit) → unit_at z.units lun ≡ Some v → (w : LogicalUnit) × (unit_at t.units lun ≡ Some w) × (w.log ≡ v.log)) (sym p) (left-logs t c.lun u c.task there));
         link = tt;
       }
     where
@@ -456,18 +568,35 @@ module _ (g : Plan) (count : ℕ) (plan : IsPlan g count) (i : ℕ) (tickets : �
           let z : Away ≡ Connected = sym (ap (λ k. k.life) (ap (with_at tickets c.task.ticket (parts_ticket tickets c)) q ∙ with_at-same tickets c.task.ticket (parts_ticket tickets c))) ∙ a in cc
       gone x e a (inr d) = d (only x e (ap (λ k. k.life) (sym (with_at-other tickets c.task.ticket (parts_ticket tickets c) x d)) ∙ a))
 
+      away-can : (b : ResetCause) → CanReset b Away
+      away-can ByBus = tt
+      away-can ByDevice = tt
+
+      may : (x : ℕ) → (g.units (unit_of g x)).target ≡ i → (x ≡ c.task.ticket) ⊎ (x ≢ c.task.ticket) → CanReset b (with_at tickets c.task.ticket (parts_ticket tickets c) x).life
+      may x e (inl q) =
+          subst (CanReset b) (sym (ap (λ k. k.life) (ap (with_at tickets c.task.ticket (parts_ticket tickets c)) q ∙ with_at-same tickets c.task.ticket (parts_ticket tickets c)))) (away-can b)
+      may x e (inr d) = subst (λ k. CanReset b k.life) (sym (with_at-other tickets c.task.ticket (parts_ticket tickets c) x d)) (can x e)
+
+work-agrees : (b : Bool) (c : Connection) (g : Plan) (i : ℕ) (old new : ℕ → Ticket) (t : Target) → ((x : ℕ) → (g.units (unit_of g x)).target ≡ i → new x ≡ old x) → WorkKept b g i old t c → WorkKept b g i new t c
+work-agrees false c g i old new t f h =
+    let e = f c.task.ticket h.target in
+    record { target = h.target; lun = h.lun; life = ap (λ z. z.life) e ∙ h.life; task = ap (λ z. z.task) e ∙ h.task; sound = h.sound; worth = h.worth }
+work-agrees true c g i old new t f h =
+    let e = f c.task.ticket h.target in
+    record {
+      target = h.target;
+      lun = h.lun;
+      life = ap (λ z. z.life) e ∙ h.life;
+      tag = ap (λ z. z.tag) e ∙ h.tag;
+      sound = h.sound;
+      shows = h.shows;
+      start = h.start;
+      asks = λ u z. subst (λ y. AsksTask u.plain c.task y.area h.start) (sym e) (h.asks u z);
+    }
+
 pub link-agrees : (l : ConnectionState) (g : Plan) (i : ℕ) (old new : ℕ → Ticket) (t : Target) → ((x : ℕ) → (g.units (unit_of g x)).target ≡ i → new x ≡ old x) → LinkKept l g i old t → LinkKept l g i new t
 link-agrees BusFree g i old new t f h = tt
 link-agrees (connection_state.Selected b) g i old new t f h = tt
 link-agrees (TakingCommand n b) g i old new t f h = tt
 link-agrees (RogueConnected s n) g i old new t f h = h
-link-agrees (TaskConnected c) g i old new t f h =
-    let e = f c.task.ticket h.target in
-    record { target = h.target; lun = h.lun; life = ap (λ z. z.life) e ∙ h.life; task = ap (λ z. z.task) e ∙ h.task; sound = h.sound; worth = h.worth }
-
--- a whole target under the reset of another one
-pub target-stays : (g : Plan) (count i j : ℕ) (tickets : ℕ → Ticket) (t : Target) → j ≢ i → TargetKept g count j tickets t → TargetKept g count j (reset_tickets g i tickets) t
-target-stays g count i j tickets t d h = record {
-  units = others-stay g count i j tickets t d h.units;
-  link = link-agrees t.link g j tickets (reset_tickets g i tickets) t (λ x e. let f : (g.units (unit_of g x)).target ≢ i = λ q. d (sym e ∙ q) in ap (λ b. reset_ticket b (tickets x)) (ne-test _ i f)) h.link;
-}
+link-agrees (TaskConnected c) g i old new t f h = work-agrees c.task.senses c g i old new t f h

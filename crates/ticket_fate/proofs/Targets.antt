@@ -18,9 +18,10 @@ use Rattle.target_law.specs.Calls.{acted_by, target_acted}
 use Rattle.target_session.proofs.Acts.{acted-sound, acted-others}
 use Rattle.ticket_fate.specs.Tickets.{Plan, unit_of, opening, Connected, Away, Ticket, view_for}
 use Rattle.ticket_fate.specs.Fates.{HasTask, Fate, TicketKept}
-use Rattle.ticket_fate.specs.Linked.{IsPlan, WaitingTasks, UnitKept, ShownFits, IsAtWork, LinkKept, UnitsKept, TargetKept}
+use Rattle.ticket_fate.specs.Linked.{IsPlan, WaitingTasks, UnitKept, ShownFits, IsAtWork, WorkKept, LinkKept, UnitsKept, TargetKept}
+use Rattle.ticket_fate.specs.Senses.{SenseFate}
 use Rattle.ticket_fate.proofs.Views.{Grows, each-changed, each-elsewhere}
-use Rattle.ticket_fate.proofs.TicketSteps.{fate_at, needs}
+use Rattle.ticket_fate.proofs.TicketSteps.{fate_at, sense_at, needs}
 use Rattle.ticket_fate.proofs.Choices.{Follows, follows}
 use Rattle.ticket_fate.proofs.TaskLists.{lists-other, lists-elsewhere}
 
@@ -159,6 +160,7 @@ not-away k e f = let g : Connected ≡ Away = sym e ∙ f in cc
 pub follow-kept : (g : Plan) (x : ℕ) (k : Ticket) (s y : Session) → k.life ≡ Connected → TicketKept g x k s.log → Follows g x k.tag k.tries k.buffer s y → TicketKept g x (record k { task = y.task }) y.log
 follow-kept g x k s y e h f = record {
   fate = subst (λ l. Fate g x l (record k { task = y.task }) (view_for g x y.log)) (sym e) f.runs;
+  sense = subst (λ l. SenseFate g x l (record k { task = y.task }) (view_for g x y.log)) (sym e) (f.unasked k.sense (sense_at g x k s.log Connected h e));
   absent = λ a. absurd (needs g x k s.log Connected h e (λ z. z) a);
   since = subst (λ n. k.since ≤ n) (sym f.clears) h.since;
   before = h.before;
@@ -191,12 +193,12 @@ acted-worth move.Restore s limit refused e c f = tt
 acted-worth (move.Rogue word) s limit refused e c f = absurd c
 
 module _ (g : Plan) (count : ℕ) (plan : IsPlan g count) (i : ℕ) (tickets : ℕ → Ticket) (t : Target) (h : TargetKept g count i tickets t) (c : Connection) (working : t.link ≡ TaskConnected c)
-    (u : LogicalUnit) (there : unit_at t.units c.lun ≡ Some u) where
+    (free : c.task.senses ≡ false) (u : LogicalUnit) (there : unit_at t.units c.lun ≡ Some u) where
   abbrev pub x : ℕ
   x = c.task.ticket
 
   pub at : IsAtWork g i tickets t c
-  at = subst (λ l. LinkKept l g i tickets t) working h.link
+  at = subst (λ b. WorkKept b g i tickets t c) free (subst (λ l. LinkKept l g i tickets t) working h.link)
 
   pub kept : UnitKept g (unit_of g c.task.ticket) tickets u
   kept = unit-of-work g count plan i tickets t h.units x c.lun u at.target at.lun there
@@ -222,9 +224,9 @@ module _ (g : Plan) (count : ℕ) (plan : IsPlan g count) (i : ℕ) (tickets : �
           others = λ j w. subst (λ z. IsWaiting z.unit j) (sym same) (acted-others m (session u c) j w);
           waits = λ a. absurd (not-away (tickets x) at.life a);
         }) kept) (TaskConnected (connection_after c y));
-        link = work-is g i tickets x k (goes_on t c u y) (connection_after c y) f.ticket at.target at.lun at.life refl
+        link = subst (λ b. WorkKept b g i (with_at tickets x k) (goes_on t c u y) (connection_after c y)) (sym f.runs.plain) (work-is g i tickets x k (goes_on t c u y) (connection_after c y) f.ticket at.target at.lun at.life refl
             (λ w e. subst (λ z. IsSound (session z (connection_after c y))) (same_Some (unit_after u y) w (sym (unit-same t.units c.lun u (unit_after u y) there) ∙ e)) sound)
-            (subst (λ z. ShownFits z.shows z.task) (sym same) (acted-worth m (session u c) limit refused e can runs.fresh));
+            (subst (λ z. ShownFits z.shows z.task) (sym same) (acted-worth m (session u c) limit refused e can runs.fresh)));
       }
 
   pub acted-kept : (m : Move) (limit refused : ℕ) → c.shows ≡ ToChoose → Can m (session u c) limit refused

@@ -30,8 +30,9 @@ use Rattle.ticket_fate.specs.Tickets.{Plan, unit_of, opening, Selected, Connecte
 use Rattle.ticket_fate.specs.Kept.{AtLink}
 use Rattle.ticket_fate.specs.Fates.{HasTask}
 use Rattle.ticket_fate.specs.Moves.{CompletesTicket}
-use Rattle.ticket_fate.specs.Linked.{IsPlan, AwayTasks, WaitingTasks, UnitKept, ShownFits, VerdictFits, IsAtWork, TargetKept}
-use Rattle.ticket_fate.proofs.TicketSteps.{fate_at, needs, held-none}
+use Rattle.ticket_fate.specs.Linked.{IsPlan, AwayTasks, WaitingTasks, UnitKept, ShownFits, VerdictFits, IsAtWork, WorkKept, TargetKept}
+use Rattle.ticket_fate.proofs.TicketSteps.{fate_at, sense_at, needs, held-none}
+use Rattle.ticket_fate.proofs.Asking.{unasked-entry}
 use Rattle.ticket_fate.proofs.DataBytes.{pointed}
 use Rattle.ticket_fate.proofs.TaskLists.{lists-other, lists-leave, lists-reselect, away-at}
 use Rattle.ticket_fate.proofs.LastEntries.{Closes, ends as closes-end, rejects as closes-rejected, drop-loss, drop-plain}
@@ -45,7 +46,7 @@ unfolding closed
 refused-same st s y f = f
 
 module _ (g : Plan) (count : ℕ) (plan : IsPlan g count) (i : ℕ) (tickets : ℕ → Ticket) (t : Target) (h : TargetKept g count i tickets t) (c : Connection) (working : t.link ≡ TaskConnected c)
-    (u : LogicalUnit) (there : unit_at t.units c.lun ≡ Some u) where
+    (free : c.task.senses ≡ false) (u : LogicalUnit) (there : unit_at t.units c.lun ≡ Some u) where
   abbrev n : ℕ
   n = unit_of g c.task.ticket
 
@@ -53,13 +54,13 @@ module _ (g : Plan) (count : ℕ) (plan : IsPlan g count) (i : ℕ) (tickets : �
   own = tickets c.task.ticket
 
   w : IsAtWork g i tickets t c
-  w = at g count plan i tickets t h c working u there
+  w = at g count plan i tickets t h c working free u there
 
   unit : UnitKept g n tickets u
-  unit = kept g count plan i tickets t h c working u there
+  unit = kept g count plan i tickets t h c working free u there
 
   q : HasTask g.retries (g.requests c.task.ticket) own.tag own.tries own.buffer c.task (view_for g c.task.ticket u.log)
-  q = runs g count plan i tickets t h c working u there
+  q = runs g count plan i tickets t h c working free u there
 
   -- the unit changes, and the bus is free
   pub frees : (k : Ticket) (v : LogicalUnit) → Changed g tickets c.task.ticket k u v → TargetKept g count i (with_at tickets c.task.ticket k) (record { units = with_unit t.units c.lun v; link = BusFree })
@@ -73,6 +74,7 @@ module _ (g : Plan) (count : ℕ) (plan : IsPlan g count) (i : ℕ) (tickets : �
         grows = inl refl;
         stands = record {
           fate = (pointed g.retries (g.requests c.task.ticket) own.tag own.tries own.buffer c.task (view_for g c.task.ticket u.log) c.task.saved c.task.saved false q, saves, refl);
+          sense = sense_at g c.task.ticket own u.log Connected (unit.each c.task.ticket refl) w.life;
           absent = λ a. absurd (needs g c.task.ticket own u.log Connected (unit.each c.task.ticket refl) w.life (λ z. z) a);
           since = (unit.each c.task.ticket refl).since;
           before = (unit.each c.task.ticket refl).before;
@@ -122,14 +124,18 @@ module _ (g : Plan) (count : ℕ) (plan : IsPlan g count) (i : ℕ) (tickets : �
       frees k (drops_by false u c.task) (record {
         grows = inr (Drop c.task.ticket c.task.high, refl, refl);
         stands = record {
-          fate = λ rogue. record {
-            by = (drop-loss g c.task.ticket own c.task u.log q (report_of c.task.ticket (g.requests c.task.ticket) own.status own.lastp own.tries own.buffer [] Cut) refl refl refl refl, m);
-            ticket = refl;
-            of_unit = refl;
-            few_tries = q.most;
-            all_within = refl;
-            all_caused = refl;
-          };
+          fate = (
+            λ rogue. record {
+              by = (drop-loss g c.task.ticket own c.task u.log q (report_of c.task.ticket (g.requests c.task.ticket) own.status own.lastp own.tries own.buffer [] Cut) refl refl refl refl, m);
+              ticket = refl;
+              of_unit = refl;
+              few_tries = q.most;
+              all_within = refl;
+              all_caused = refl;
+            },
+            λ y. cc,
+          );
+          sense = unasked-entry g c.task.ticket own.sense u.log (Drop c.task.ticket c.task.high) tt (sense_at g c.task.ticket own u.log Connected (unit.each c.task.ticket refl) w.life);
           absent = λ a. absurd (needs g c.task.ticket own u.log Connected (unit.each c.task.ticket refl) w.life (λ z. z) a);
           since = subst (λ y. own.since ≤ y.clears) (sym v) (unit.each c.task.ticket refl).since;
           before = (unit.each c.task.ticket refl).before;
@@ -155,6 +161,7 @@ module _ (g : Plan) (count : ℕ) (plan : IsPlan g count) (i : ℕ) (tickets : �
       let new = record old { life = Connected; task = k } in
       let s = unit.each k.ticket a.unit in
       let f = fate_at g k.ticket old u.log Away s a.life in
+      let plain : k.senses ≡ false = ap (λ z. z.senses) (sym a.task) ∙ f.0.plain in
       let v = record u { tasks = remove u.tasks m } in
       let same : unit_of g k.ticket ≡ n = a.unit in
       let wait : IsWaiting u.plain k = subst (IsWaiting u.plain) a.task (unit.waiting k.ticket a.unit a.life) in
@@ -163,6 +170,7 @@ module _ (g : Plan) (count : ℕ) (plan : IsPlan g count) (i : ℕ) (tickets : �
         grows = inl refl;
         stands = record {
           fate = subst (λ z. HasTask g.retries (g.requests k.ticket) old.tag old.tries old.buffer z (view_for g k.ticket u.log)) a.task f.0;
+          sense = sense_at g k.ticket old u.log Away s a.life;
           absent = λ z. absurd (needs g k.ticket old u.log Away s a.life (λ y. y) z);
           since = s.since;
           before = s.before;
@@ -177,10 +185,10 @@ module _ (g : Plan) (count : ℕ) (plan : IsPlan g count) (i : ℕ) (tickets : �
       let lun : (g.units n).lun ≡ (g.units (unit_of g k.ticket)).lun = ap (λ z. (g.units z).lun) (sym same) in
       record {
         units = units-changed g count plan i tickets t h.units k.ticket new (g.units n).lun u v target lun there kept2 (TaskConnected c);
-        link = work-is g i tickets k.ticket new (record { units = with_unit t.units (g.units n).lun v; link = TaskConnected c }) c refl target lun refl refl
+        link = subst (λ b. WorkKept b g i (with_at tickets k.ticket new) (record { units = with_unit t.units (g.units n).lun v; link = TaskConnected c }) c) (sym plain) (work-is g i tickets k.ticket new (record { units = with_unit t.units (g.units n).lun v; link = TaskConnected c }) c refl target lun refl refl
             (λ y z. let same_unit : v ≡ y = some v y (sym (unit-same t.units (g.units n).lun u v there) ∙ z) in
             subst (λ b. IsSound (session b c)) same_unit (record { task = wait.task; worth = wait.turn }))
-            tt;
+            tt);
       }
     where
       some : (a b : LogicalUnit) → Some a ≡ Some b → a ≡ b
@@ -201,19 +209,19 @@ asks-none ReadCapacity = refl
 asks-none BadField = refl
 asks-none Other = refl
 
-tag-or : (a b : Bool) → a ≡ false → b ≡ false → (a || b) ≡ false
+pub tag-or : (a b : Bool) → a ≡ false → b ≡ false → (a || b) ≡ false
 tag-or false b e f = f
 tag-or true b e f = cc
 
 -- no task of the unit has the ticket's tag
-no-tag : (g : Plan) (n : ℕ) (tickets : ℕ → Ticket) (tag : ℕ) (xs : List Task) → AwayTasks g n tickets xs → ((y : ℕ) → unit_of g y ≡ n → (tickets y).life ≡ Away → (tickets y).task.tag ≡ tag → ⊥) → has_tag xs tag ≡ false
+pub no-tag : (g : Plan) (n : ℕ) (tickets : ℕ → Ticket) (tag : ℕ) (xs : List Task) → AwayTasks g n tickets xs → ((y : ℕ) → unit_of g y ≡ n → (tickets y).life ≡ Away → (tickets y).task.tag ≡ tag → ⊥) → has_tag xs tag ≡ false
 no-tag g n tickets tag [] h d = refl
 no-tag g n tickets tag (y ∷ ys) h d =
     let e : y.tag ≢ tag = λ z. d y.ticket h.0.unit h.0.life (ap (λ k. k.tag) h.0.task ∙ z) in
     let f : nat_eq y.tag tag ≡ false = grind (arith, nat_tests) in
     tag-or (nat_eq y.tag tag) (has_tag ys tag) f (no-tag g n tickets tag ys h.2 d)
 
-cond-false : {X : Type 0} (b : Bool) (x y : X) → b ≡ false → cond b x y ≡ y
+pub cond-false : {X : Type 0} (b : Bool) (x y : X) → b ≡ false → cond b x y ≡ y
 cond-false true x y e = cc
 cond-false false x y e = refl
 
@@ -263,6 +271,7 @@ module _ (g : Plan) (count : ℕ) (plan : IsPlan g count) (i : ℕ) (tickets : �
                       holds = r.holds ∙ sym (held-none (g.requests x).direction [] (g.requests x).bytes);
                       fresh = λ z. (refl, refl);
                     };
+                    sense = sense_at g x old v.log Selected (kept2.each x refl) life;
                     absent = λ z. absurd (needs g x old v.log Selected (kept2.each x refl) life (λ y. y) z);
                     since = (kept2.each x refl).since;
                     before = (kept2.each x refl).before;
@@ -273,9 +282,9 @@ module _ (g : Plan) (count : ℕ) (plan : IsPlan g count) (i : ℕ) (tickets : �
               others = λ j z. z;
               waits = λ z. absurd (let y : Connected ≡ Away = z in cc);
             }) kept2) (TaskConnected d);
-        link = work-is g i tickets x new (linked t (TaskConnected d)) d refl here lun refl refl
+        link = subst (λ b. WorkKept b g i (with_at tickets x new) (linked t (TaskConnected d)) d) (sym plain) (work-is g i tickets x new (linked t (TaskConnected d)) d refl here lun refl refl
             (λ y z. let same : u ≡ y = some u y (sym there ∙ z) in subst (λ b. IsSound (session b d)) same (record { task = wait.task; worth = λ j. absurd (let k : false ≡ true = j in cc) }))
-            tt;
+            tt);
       })
     where
       some : (a b : LogicalUnit) → Some a ≡ Some b → a ≡ b

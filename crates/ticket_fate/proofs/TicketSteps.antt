@@ -14,10 +14,15 @@ use Rattle.unit_law.specs.Report.{ByLoss, filled, holding, data_of, no_status}
 use Rattle.unit_law.proofs.Views.{ne-test}
 use Rattle.logs_have_room.specs.Room.{entries}
 use Rattle.ticket_fate.specs.Tickets.{Plan, unit_of, Life, Unbuilt, Built, Linked, ToRequeue, Waits, Selected, Rejected, Finished, Ended, Ticket, with_life, report_of, view_for, built_ticket, queued_ticket}
+use Rattle.ticket_fate.specs.Senses.{Unasked, SenseFate}
+use Rattle.ticket_fate.proofs.Asking.{silent-lost}
 use Rattle.ticket_fate.specs.Fates.{OnlyRefusals, Queued, AllRefused, Fate, TicketKept, NeedsNone}
 
 pub fate_at : (g : Plan) (t : ℕ) (k : Ticket) (log : List LogEntry) (l : Life) → TicketKept g t k log → k.life ≡ l → Fate g t l k (view_for g t log)
 fate_at g t k log l s e = subst (λ x. Fate g t x k (view_for g t log)) e s.fate
+
+pub sense_at : (g : Plan) (t : ℕ) (k : Ticket) (log : List LogEntry) (l : Life) → TicketKept g t k log → k.life ≡ l → SenseFate g t l k (view_for g t log)
+sense_at g t k log l s e = subst (λ x. SenseFate g t x k (view_for g t log)) e s.sense
 
 -- a target that is there
 pub needs : (g : Plan) (t : ℕ) (k : Ticket) (log : List LogEntry) (l : Life) → TicketKept g t k log → k.life ≡ l → (NeedsNone l → ⊥) → (g.units (unit_of g t)).absent ≡ true → ⊥
@@ -45,13 +50,14 @@ module _ (g : Plan) (t : ℕ) (k : Ticket) (log : List LogEntry) (s : TicketKept
   pub built-kept : (tag : ℕ) → k.life ≡ Unbuilt → TicketKept g t (built_ticket (g.requests t) tag (entries (view_for g t log).tally) k) log
   built-kept tag e =
       let f = fate_at g t k log Unbuilt s e in
-      record { fate = (refl, record { entries = f; holds = refl }); absent = λ a. ((s.absent a).0, tt); since = omega arith; before = omega (arith, f.refusals, f.looks, f.ends, f.drops, f.senses) }
+      record { fate = (refl, record { entries = f; holds = refl }); sense = sense_at g t k log Unbuilt s e; absent = λ a. ((s.absent a).0, tt); since = s.since; before = omega (arith, f.refusals, f.looks, f.ends, f.drops, f.senses) }
 
   pub linked-kept : k.life ≡ Built → TicketKept g t (with_life k Linked) log
-  linked-kept e = record { fate = fate_at g t k log Built s e; absent = λ a. ((s.absent a).0, tt); since = s.since; before = s.before }
+  linked-kept e = record { fate = fate_at g t k log Built s e; sense = sense_at g t k log Built s e; absent = λ a. ((s.absent a).0, tt); since = s.since; before = s.before }
 
-  waits : (since : ℕ) → k.tries ≤ g.retries → since ≤ v.tally.clears → AllRefused r k.tries k.buffer v → TicketKept g t (queued_ticket k since) log
-  waits since few le f = record {
+  waits : (since : ℕ) → k.tries ≤ g.retries → since ≤ v.tally.clears → AllRefused r k.tries k.buffer v → Unasked k.sense v → TicketKept g t (queued_ticket k since) log
+  waits since few le f u = record {
+    sense = u;
     fate = record { entries = recount v k.tries f.entries; tried = ap (λ n. n + 1) (sym f.entries.refusals); most = omega arith; holds = f.holds; last = refl; saves = refl };
     absent = λ a. ((s.absent a).0, tt);
     since = le;
@@ -59,10 +65,10 @@ module _ (g : Plan) (t : ℕ) (k : Ticket) (log : List LogEntry) (s : TicketKept
   }
 
   pub queued-kept : k.life ≡ Linked → TicketKept g t (queued_ticket k (view_for g t log).tally.clears) log
-  queued-kept e = let f = fate_at g t k log Linked s e in waits v.tally.clears (omega (arith, f.0)) (omega arith) f.1
+  queued-kept e = let f = fate_at g t k log Linked s e in waits v.tally.clears (omega (arith, f.0)) (omega arith) f.1 (sense_at g t k log Linked s e)
 
   pub again-kept : k.life ≡ ToRequeue → TicketKept g t (queued_ticket k k.since) log
-  again-kept e = let f = fate_at g t k log ToRequeue s e in waits k.since f.0 s.since f.1
+  again-kept e = let f = fate_at g t k log ToRequeue s e in waits k.since f.0 s.since f.1 (sense_at g t k log ToRequeue s e)
 
   pub loss : Queued g.retries r k.tries k.lastp k.savep k.buffer v → (q : Report) → q.status ≡ no_status → q.residual ≡ length r.bytes → q.tries ≡ k.tries → q.bytes ≡ k.buffer → ByLoss r v q
   loss q p a b c d = record {
@@ -78,46 +84,51 @@ module _ (g : Plan) (t : ℕ) (k : Ticket) (log : List LogEntry) (s : TicketKept
   cancelled-kept e m =
       let q = fate_at g t k log Waits s e in
       record {
-        fate = λ rogue. record { by = (loss q (report_of t r k.status k.lastp k.tries k.buffer [] Cut) refl refl refl refl, m); ticket = refl; of_unit = refl; few_tries = q.most; all_within = refl; all_caused = refl };
+        fate = (λ rogue. record { by = (loss q (report_of t r k.status k.lastp k.tries k.buffer [] Cut) refl refl refl refl, m); ticket = refl; of_unit = refl; few_tries = q.most; all_within = refl; all_caused = refl }, λ z. cc);
+        sense = sense_at g t k log Waits s e;
         absent = λ a. ((s.absent a).0, tt);
         since = s.since;
         before = s.before;
       }
 
   pub selected-kept : k.life ≡ Waits → (g.units (unit_of g t)).absent ≡ false → TicketKept g t (with_life k Selected) log
-  selected-kept e f = record { fate = fate_at g t k log Waits s e; absent = λ a. cc; since = s.since; before = s.before }
+  selected-kept e f = record { fate = fate_at g t k log Waits s e; sense = sense_at g t k log Waits s e; absent = λ a. cc; since = s.since; before = s.before }
 
   pub absent-kept : k.life ≡ Waits → (g.units (unit_of g t)).absent ≡ true → TicketKept g t (with_life k (Finished NoTarget)) log
   absent-kept e a =
       let q = fate_at g t k log Waits s e in
       let z = (s.absent a).0 in
       record {
-        fate = λ rogue. record {
-          by = record {
-            absent = a;
-            no_refusal = z;
-            no_look = q.entries.looks;
-            no_end = q.entries.ends;
-            no_drop = q.entries.drops;
-            no_sense = q.entries.senses;
-            tries = omega (arith, q.tried, z);
-            status = refl;
-            residual = refl;
-            bytes = q.holds;
-          };
-          ticket = refl;
-          of_unit = refl;
-          few_tries = q.most;
-          all_within = refl;
-          all_caused = refl;
-        };
+        fate = (
+          λ rogue. record {
+            by = record {
+              absent = a;
+              no_refusal = z;
+              no_look = q.entries.looks;
+              no_end = q.entries.ends;
+              no_drop = q.entries.drops;
+              no_sense = q.entries.senses;
+              tries = omega (arith, q.tried, z);
+              status = refl;
+              residual = refl;
+              bytes = q.holds;
+            };
+            ticket = refl;
+            of_unit = refl;
+            few_tries = q.most;
+            all_within = refl;
+            all_caused = refl;
+          },
+          λ y. cc,
+        );
+        sense = sense_at g t k log Waits s e;
         absent = λ b. (z, tt);
         since = s.since;
         before = s.before;
       }
 
   pub requeue-kept : (st : Status) → k.life ≡ Rejected st → k.tries ≤ g.retries → TicketKept g t (with_life k ToRequeue) log
-  requeue-kept st e m = let f = fate_at g t k log (Rejected st) s e in record { fate = (m, f.4); absent = λ a. ((s.absent a).0, tt); since = s.since; before = s.before }
+  requeue-kept st e m = let f = fate_at g t k log (Rejected st) s e in record { fate = (m, f.4); sense = sense_at g t k log (Rejected st) s e; absent = λ a. ((s.absent a).0, tt); since = s.since; before = s.before }
 
   pub refused-kept : (st : Status) → k.life ≡ Rejected st → g.retries < k.tries → TicketKept g t (with_life k (Ended Done)) log
   refused-kept st e m =
@@ -142,6 +153,7 @@ module _ (g : Plan) (t : ℕ) (k : Ticket) (log : List LogEntry) (s : TicketKept
           all_within = refl;
           all_caused = refl;
         };
+        sense = silent-lost g t (with_life k (Ended Done)) v Done (sense_at g t k log (Rejected st) s e) q.ends;
         absent = λ a. ((s.absent a).0, tt);
         since = s.since;
         before = s.before;

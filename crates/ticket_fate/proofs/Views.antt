@@ -7,6 +7,7 @@ use Rattle.unit_law.specs.Log.{with_at, Tally, View, view_of}
 use Rattle.unit_law.specs.Request.{RequestData}
 use Rattle.unit_law.proofs.Views.{IsOf, tally-other, answers-other, senses-other, with_at-same, with_at-other, same_or_not}
 use Rattle.ticket_fate.specs.Tickets.{Plan, unit_of, opening, Ticket, view_for}
+use Rattle.ticket_fate.specs.Senses.{SenseFate}
 use Rattle.ticket_fate.specs.Fates.{Fate, TicketKept}
 
 -- nothing was logged, or one entry of t
@@ -30,6 +31,7 @@ grows-view g x t old new (inr p) d = ap (view_for g x) p.2 ∙ view-other g.requ
 pub view-kept : (g : Plan) (x : ℕ) (k : Ticket) (old new : List LogEntry) → view_for g x new ≡ view_for g x old → TicketKept g x k old → TicketKept g x k new
 view-kept g x k old new e s = record {
   fate = subst (Fate g x k.life k) (sym e) s.fate;
+  sense = subst (SenseFate g x k.life k) (sym e) s.sense;
   absent = λ a. let h = s.absent a in (ap (λ v. v.tally.refusals) e ∙ h.0, h.1);
   since = subst (λ v. k.since ≤ v.tally.clears) (sym e) s.since;
   before = s.before;

@@ -12,6 +12,7 @@ use Rattle.unit_law.specs.Log.{View}
 use Rattle.unit_law.specs.Report.{Fits, EndedInCheck, holding, data_of}
 use Rattle.target_law.specs.Session.{Task}
 use Rattle.logs_have_room.specs.Room.{entries}
+use Rattle.ticket_fate.specs.Senses.{SenseFate}
 use Rattle.ticket_fate.specs.Tickets.{Plan, unit_of, setting, Life, Unbuilt, Built, Linked, ToRequeue, Waits, Selected, Connected, Away, Lost, Rejected, Finished, Checked, Asks, AskStarts, AskConnected, AskLost, Asked, AtRogue, Ended, Unlinked, Freed, Ticket, course_at, course_of, report_of, view_for}
 
 -- the log has nothing of it but n refusals
@@ -80,7 +81,7 @@ Fate g t Connected k v = HasTask g.retries (g.requests t) k.tag k.tries k.buffer
 Fate g t Away k v = HasTask g.retries (g.requests t) k.tag k.tries k.buffer k.task v × (k.savep ≡ k.task.saved) × (k.task.position ≡ k.task.saved)
 Fate g t Lost k v = ReportFits g t k v Reset
 Fate g t (Rejected st) k v = (k.tries ≤ g.retries + 1) × (k.status ≡ status_code st) × (v.tally.refused ≡ Some st) × (status_code st ≡ status_code Good → ⊥) × AllRefused (g.requests t) k.tries k.buffer v
-Fate g t (Finished o) k v = ReportFits g t k v o
+Fate g t (Finished o) k v = ReportFits g t k v o × (o ≡ Done → v.tally.ends ≡ 1)
 Fate g t Checked k v = FitsInCheck g t k v
 Fate g t Asks k v = FitsInCheck g t k v
 Fate g t AskStarts k v = FitsInCheck g t k v
@@ -100,9 +101,10 @@ NeedsNone Away = ⊥
 NeedsNone Lost = ⊥
 NeedsNone _ = Unit {0}
 
--- what holds of ticket t, of its record and of its unit's log
+-- What holds of ticket t, of its record and of its unit's log.
 pub record TicketKept (g : Plan) (t : ℕ) (k : Ticket) (log : List LogEntry) : Type 0 where
   pub fate : Fate g t k.life k (view_for g t log)
+  pub sense : SenseFate g t k.life k (view_for g t log)
   pub absent : (g.units (unit_of g t)).absent ≡ true → ((view_for g t log).tally.refusals ≡ 0) × NeedsNone k.life
   pub since : k.since ≤ (view_for g t log).tally.clears
   pub before : k.before ≡ 0

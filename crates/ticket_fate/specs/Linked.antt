@@ -1,8 +1,9 @@
 -- How the state of a target and the tickets fit one another. Source: own.
-use Rattle.std.specs.Prelude.{◌≡◌, ℕ, ◌<◌, nat_eq, Bool, true, false, List, [], ◌∷◌, Some, None, ◌⊎◌}
+use Rattle.std.specs.Prelude.{◌≡◌, ℕ, ◌<◌, nat_eq, nat_lt, ◌&&◌, ◌||◌, Bool, true, false, List, [], ◌∷◌, Option, Some, None, ◌⊎◌}
 use Rattle.scsi_words.specs.Statuses.{status_code}
 use Rattle.scsi_words.specs.declared.statuses.kinds.Status.TheVariants.{Good}
-use Rattle.unit_law.specs.Log.{run_log}
+use Rattle.unit_law.specs.declared.entry.LogEntry.{LogEntry}
+use Rattle.unit_law.specs.Log.{run_log, tally}
 use Rattle.target_law.specs.declared.task_phase.TargetMessage.{TargetMessage}
 use Rattle.target_law.specs.declared.task_phase.TargetMessage.TheVariants.{CommandComplete}
 use Rattle.target_law.specs.declared.task_phase.TaskPhase.{TaskPhase}
@@ -13,7 +14,8 @@ use Rattle.target_law.specs.Session.{Task}
 use Rattle.target_law.specs.Bytes.{Connection}
 use Rattle.target_law.specs.Sound.{IsSound, IsWaiting}
 use Rattle.target_law.specs.Target.{LogicalUnit, ConnectionState, TaskConnected, RogueConnected, Target, unit_at, session}
-use Rattle.ticket_fate.specs.Tickets.{Plan, unit_of, opening, Life, Selected, Connected, Away, Lost, AskStarts, AskConnected, AskLost, Ticket, IsAccepted}
+use Rattle.ticket_fate.specs.Tickets.{Plan, unit_of, opening, Life, Selected, Connected, Away, Lost, Asks, AskStarts, AskConnected, AskLost, is_live, Ticket, IsAccepted}
+use Rattle.ticket_fate.specs.Senses.{AsksTask}
 use Rattle.ticket_fate.specs.Fates.{TicketKept}
 
 -- the units of the rig, by their numbers
@@ -80,9 +82,47 @@ pub record IsAtWork (g : Plan) (i : ℕ) (tickets : ℕ → Ticket) (t : Target)
   pub sound : (u : LogicalUnit) → unit_at t.units c.lun ≡ Some u → IsSound (session u c)
   pub worth : ShownFits c.shows c.task
 
+-- what a sense task shows: a choice, its data, its status, COMMAND COMPLETE after an answer
+abbrev pub HasAnswer : Completion → Type 0
+HasAnswer (HasAnswered st) = Unit {0}
+HasAnswer (Refused st) = ⊥
+
+abbrev pub NoteOfSense : TargetMessage → Type 0
+NoteOfSense (CommandComplete v) = HasAnswer v
+NoteOfSense n = ⊥
+
+abbrev pub ShownBySense : TaskPhase → Type 0
+ShownBySense ToChoose = Unit {0}
+ShownBySense MessageOut = ⊥
+ShownBySense (DataIn n) = Unit {0}
+ShownBySense (DataOut n) = ⊥
+ShownBySense (Status v) = HasAnswer v
+ShownBySense (MessageIn n sent) = NoteOfSense n
+
+-- a connected sense task
+pub record IsAsking (g : Plan) (i : ℕ) (tickets : ℕ → Ticket) (t : Target) (c : Connection) : Type 0 where
+  pub target : (g.units (unit_of g c.task.ticket)).target ≡ i
+  pub lun : c.lun ≡ (g.units (unit_of g c.task.ticket)).lun
+  pub life : (tickets c.task.ticket).life ≡ AskConnected
+  pub tag : (tickets c.task.ticket).tag ≡ c.task.tag
+  pub sound : (u : LogicalUnit) → unit_at t.units c.lun ≡ Some u → IsSound (session u c)
+  pub shows : ShownBySense c.shows
+  pub start : List ℕ
+  pub asks : (u : LogicalUnit) → unit_at t.units c.lun ≡ Some u → AsksTask u.plain c.task (tickets c.task.ticket).area start
+
+abbrev pub WorkKept : (senses : Bool) → Plan → ℕ → (ℕ → Ticket) → Target → Connection → Type 0
+WorkKept false g i tickets t c = IsAtWork g i tickets t c
+WorkKept true g i tickets t c = IsAsking g i tickets t c
+
+-- a unit of the target breaks the rules
+pub record HasRogue (g : Plan) (i : ℕ) : Type 0 where
+  pub unit : ℕ
+  pub target : (g.units unit).target ≡ i
+  pub rogue : (g.units unit).rogue ≡ true
+
 abbrev pub LinkKept : ConnectionState → Plan → ℕ → (ℕ → Ticket) → Target → Type 0
-LinkKept (TaskConnected c) g i tickets t = IsAtWork g i tickets t c
-LinkKept (RogueConnected s n) g i tickets t = ⊥
+LinkKept (TaskConnected c) g i tickets t = WorkKept c.task.senses g i tickets t c
+LinkKept (RogueConnected s n) g i tickets t = HasRogue g i
 LinkKept _ g i tickets t = Unit {0}
 
 -- every unit of the target
@@ -93,18 +133,51 @@ pub record TargetKept (g : Plan) (count i : ℕ) (tickets : ℕ → Ticket) (t :
   pub units : UnitsKept g count i tickets t
   pub link : LinkKept t.link g i tickets t
 
--- what a reset of its target does to a ticket: a task is lost, and a selection with no task yet
-abbrev pub lost_life : Life → Life
-lost_life Selected = Lost
-lost_life Connected = Lost
-lost_life Away = Lost
-lost_life AskStarts = AskLost
-lost_life AskConnected = AskLost
-lost_life l = l
+-- why a target is reset: with the whole bus, or by BUS DEVICE RESET, which an act started
+pub data ResetCause : Type 0 where
+  ByBus : ResetCause
+  ByDevice : ResetCause
 
-abbrev pub reset_ticket : Bool → Ticket → Ticket
-reset_ticket true k = record k { life = lost_life k.life }
-reset_ticket false k = k
+-- What a reset of its target does to a ticket: a task is lost, and a selection with no task yet. A bus reset also takes the request for sense
+-- that waits at FRONT.
+abbrev pub front_life : ResetCause → Life
+front_life ByBus = AskLost
+front_life ByDevice = Asks
 
-abbrev pub reset_tickets : Plan → ℕ → (ℕ → Ticket) → ℕ → Ticket
-reset_tickets g i tickets x = reset_ticket (nat_eq (g.units (unit_of g x)).target i) (tickets x)
+abbrev pub lost_life : ResetCause → Life → Life
+lost_life b Selected = Lost
+lost_life b Connected = Lost
+lost_life b Away = Lost
+lost_life b Asks = front_life b
+lost_life b AskStarts = AskLost
+lost_life b AskConnected = AskLost
+lost_life b l = l
+
+-- whether the bus was reset between the End of a ticket and its Free; `ends` is how many Ends of it the log has
+abbrev pub flagged : ResetCause → Bool → (ends : ℕ) → Life → Bool
+flagged ByBus flag ends l = flag || (nat_lt 0 ends && is_live l)
+flagged ByDevice flag ends l = flag
+
+abbrev pub lost_ticket : ResetCause → (ends : ℕ) → Ticket → Ticket
+lost_ticket b ends k = record k { life = lost_life b k.life; bus_reset = flagged b k.bus_reset ends k.life }
+
+abbrev pub reset_ticket : Bool → ResetCause → (ends : ℕ) → Ticket → Ticket
+reset_ticket true b ends k = lost_ticket b ends k
+reset_ticket false b ends k = k
+
+-- the log of a ticket's unit in its target
+abbrev pub log_in : Option LogicalUnit → List LogEntry
+log_in (Some u) = u.log
+log_in None = []
+
+abbrev pub log_of : Plan → Target → ℕ → List LogEntry
+log_of g t x = log_in (unit_at t.units (g.units (unit_of g x)).lun)
+
+abbrev pub reset_tickets : Plan → ℕ → ResetCause → Target → (ℕ → Ticket) → ℕ → Ticket
+reset_tickets g i b t tickets x = reset_ticket (nat_eq (g.units (unit_of g x)).target i) b (tally x (log_of g t x)).ends (tickets x)
+
+-- a device reset comes in a connection of its own, in which no request for sense is under way at the target
+abbrev pub CanReset : ResetCause → Life → Type 0
+CanReset ByDevice AskStarts = ⊥
+CanReset ByDevice AskConnected = ⊥
+CanReset b l = Unit {0}

@@ -1,5 +1,5 @@
 -- A ticket without host memory: numbers and lists. Source: own.
-use Rattle.std.specs.Prelude.{◌≡◌, ℕ, ◌+◌, ◌-◌, ◌<◌, ◌≤◌, ◌==◌, if◌then◌else◌, Bool, false, List, [], length}
+use Rattle.std.specs.Prelude.{◌≡◌, ℕ, ◌+◌, ◌-◌, ◌<◌, ◌≤◌, ◌==◌, if◌then◌else◌, Bool, true, false, List, [], length}
 use Rattle.scsi_words.specs.declared.statuses.kinds.Status.{Status}
 use Rattle.scsi_words.specs.declared.statuses.kinds.Status.TheVariants.{Good}
 use Rattle.scsi_words.specs.Statuses.{status_code}
@@ -46,8 +46,8 @@ pub record IsAccepted (r : RequestData) : Type 0 where
 -- Where a ticket is in its life; its stage, STATE and the place of its task are functions of it. It isn't built; it is built; it is linked; it
 -- is to be queued again; it waits in the start ring; it is selected and has no task; its task is connected, or away, or was dropped by a reset;
 -- the unit refused it; it came to an outcome, and waits to be taken. It ended with CHECK CONDITION and is to ask for sense; it waits at FRONT to
--- ask, is selected, has a connected sense task, lost it by a reset, or has asked and waits to be taken. Its unit breaks the rules, from its
--- selection until it is taken. It was taken with its outcome, unlinked, freed. No move of this crate leads to a life with sense, nor to AtRogue.
+-- ask, is selected, has a connected sense task, lost it by a bus reset, or has asked and waits to be taken. Its unit breaks the rules, from its
+-- first selection until it has an outcome. It was taken with its outcome, unlinked, freed.
 pub data Life : Type 0 where
   Unbuilt : Life
   Built : Life
@@ -129,11 +129,17 @@ abbrev pub view_for : Plan → ℕ → List LogEntry → View
 view_for g t log = view_of g.requests (opening g (unit_of g t)) log t
 
 abbrev pub built_ticket : RequestData → (tag before : ℕ) → Ticket → Ticket
-built_ticket r tag before k = record k { life = Built; tag = tag; status = no_status; lastp = 0; savep = 0; buffer = r.bytes; area = []; sense = []; marked = false; tries = 0; since = 0; clears = 0; before = before; logged = 0; bus_reset = false }
+built_ticket r tag before k = record k { life = Built; tag = tag; status = no_status; lastp = 0; savep = 0; buffer = r.bytes; area = []; sense = []; tries = 0; before = before; logged = 0 }
 
 -- it goes into the start ring; at the first time the Clears so far are noted
 abbrev pub queued_ticket : Ticket → ℕ → Ticket
 queued_ticket k since = record k { life = Waits; status = no_status; lastp = 0; savep = 0; tries = k.tries + 1; since = since }
+
+-- a ticket is live from its Build to its Free
+abbrev pub is_live : Life → Bool
+is_live Unbuilt = false
+is_live (Freed o) = false
+is_live _ = true
 
 -- what a byte from the target changes of its ticket: a byte of the data goes to its place in the buffer, a status byte into the block
 abbrev pub ticket_sent : TaskPhase → (at b : ℕ) → Ticket → Task → Ticket
@@ -144,3 +150,20 @@ ticket_sent _ at b k x = record k { task = x }
 -- its Free fixes its history
 abbrev pub freed_ticket : Ticket → Outcome → Tally → Ticket
 freed_ticket k o n = record k { life = Freed o; clears = n.clears - k.since; logged = entries n }
+
+-- the report that its Free makes
+abbrev pub freed_report : ℕ → RequestData → Ticket → Outcome → Report
+freed_report t r k o = report_of t r k.status k.lastp k.tries k.buffer k.sense o
+
+-- it is to ask for the sense: the 18 bytes of the sense area are as they are
+abbrev pub asking_ticket : Ticket → (area : List ℕ) → Ticket
+asking_ticket k area = record k { life = Asks; area = area }
+
+-- a byte of the sense goes to its place in the sense area; the status of the first end stays
+abbrev pub ticket_asked : TaskPhase → (at b : ℕ) → Ticket → Task → Ticket
+ticket_asked (DataIn n) at b k x = record k { area = put k.area at b; task = x }
+ticket_asked _ at b k x = record k { task = x }
+
+-- a unit that breaks the rules does what it likes with the ticket, and the driver may queue it again
+abbrev pub strayed_ticket : Ticket → (status lastp savep tries : ℕ) → (buffer area : List ℕ) → Ticket
+strayed_ticket k status lastp savep tries buffer area = record k { status = status; lastp = lastp; savep = savep; tries = tries; buffer = buffer; area = area }

@@ -1,10 +1,16 @@
 //! Laws of tickets. Each function does nothing; its contract is the law.
 
-ghost use Rattle.ticket_fate.specs.Laws.{ReportsFit, UnitsRunTheirLogs, NoneLostAfterEnd};
+ghost use Rattle.ticket_fate.specs.Laws.{ReportsFit, HistoriesEnd, UnitsRunTheirLogs, NoneLostAfterEnd};
 
-/// After every list of moves from the opening, the report of each freed ticket fits its unit's log, but for its sense.
+/// After every list of moves from the opening, the report of each freed ticket fits its unit's log, and so does its sense.
 pub fn reports_fit()
     ensures { ReportsFit }
+{}
+
+/// The history that the moves made of a freed ticket is as it was at its Free: none of its entries lies outside its life,
+/// and no Clear of its unit's log came without a reset of its target.
+pub fn histories_end()
+    ensures { HistoriesEnd }
 {}
 
 /// After every list of moves from the opening, each unit is what its log makes of its opening.
