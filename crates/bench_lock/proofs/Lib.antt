@@ -3,4 +3,4 @@ pub mod Own
 pub mod Seatwise
 pub mod SeatSteps
 pub mod Keeps
-pub mod Following
+pub mod OwnedNumbers

@@ -4,10 +4,10 @@ use native.Mathlib.Decide.{ℕ_discrete}
 use Rattle.bench_lock.specs.declared.view.View.{View}
 use Rattle.bench_lock.specs.Log.{has}
 use Rattle.bench_lock.specs.Views.{Follows}
-use Rattle.bench_lock.proofs.Following.{has-without, Follows-joined}
+use Rattle.bench_lock.proofs.OwnedNumbers.{has-without, Follows-joined}
 use Rattle.lock_callers.specs.declared.counter.Bounds.{Bounds}
 use Rattle.lock_callers.specs.Counted.{IsServed}
-use Rattle.lock_callers.proofs.Serving.{served-on}
+use Rattle.lock_callers.proofs.ServedSteps.{served-on}
 use Rattle.lock_callers.proofs.+fn-from_next-join+arg2+from_next.Goals as goal
 
 pub returns-clause-follows : goal.returns-clause-follows

@@ -1,8 +1,8 @@
 use Rattle.std.proofs.Common.{◌≡◌, ℕ, ◌<◌, ◌∙◌, ⊎_elim, subst, sym, arith}
 use Rattle.std.proofs.lemmas.Bool.{cases_lt}
-use Rattle.bench_lock.proofs.Following.{Follows-stepped}
+use Rattle.bench_lock.proofs.OwnedNumbers.{Follows-stepped}
 use Rattle.lock_callers.specs.Counted.{IsServed}
-use Rattle.lock_callers.proofs.Serving.{served-on, seen-on, stepped-served}
+use Rattle.lock_callers.proofs.ServedSteps.{served-on, seen-on, stepped-served}
 use Rattle.lock_callers.proofs.make_steps.Goals as goal
 
 pub loop-k-preserved : goal.loop-k-preserved

@@ -3,9 +3,9 @@ use mathlib.Core.Logic.{dite}
 use native.Mathlib.Decide.{ℕ_discrete}
 use Rattle.bench_lock.specs.declared.view.View.{View}
 use Rattle.bench_lock.specs.Log.{has}
-use Rattle.bench_lock.proofs.Following.{has-numbers_from, all_of_first}
+use Rattle.bench_lock.proofs.OwnedNumbers.{has-numbers_from, all_of_first}
 use Rattle.lock_callers.specs.declared.counter.Bounds.{Bounds}
-use Rattle.lock_callers.proofs.Serving.{served-on}
+use Rattle.lock_callers.proofs.ServedSteps.{served-on}
 use Rattle.lock_callers.proofs.run.Goals as goal
 
 pub from_next-seat-requires-clause-spare : goal.from_next-seat-requires-clause-spare

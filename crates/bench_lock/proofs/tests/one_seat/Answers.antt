@@ -1,5 +1,5 @@
 use Rattle.std.proofs.Common.{◌∙◌}
-use Rattle.bench_lock.proofs.Following.{Follows-stepped, all_of_first}
+use Rattle.bench_lock.proofs.OwnedNumbers.{Follows-stepped, all_of_first}
 use Rattle.bench_lock.proofs.tests.one_seat.Goals as goal
 
 pub loop-k-preserved : goal.loop-k-preserved

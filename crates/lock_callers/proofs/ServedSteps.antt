@@ -5,7 +5,7 @@ use Rattle.bench_lock.specs.declared.view.View.{View}
 use Rattle.bench_lock.specs.Log.{added, entry, Begins}
 use Rattle.bench_lock.specs.Stepped.{Stepped}
 use Rattle.bench_lock.specs.Views.{Follows}
-use Rattle.bench_lock.proofs.Following.{Follows-stepped}
+use Rattle.bench_lock.proofs.OwnedNumbers.{Follows-stepped}
 use Rattle.lock_callers.specs.Counted.{Allowed, is_left_out, is_recorded, IsFull, IsEntry, IsServed, sum_of}
 use Rattle.lock_callers.specs.declared.counter.Bounds.{Bounds}
 
