@@ -23,7 +23,7 @@ pub const WHOLE: Sinking = Sinking {
 
 /// What a command left: its status, and what it printed.
 #[derive(Drop)]
-pub struct Left {
+pub struct Ending {
     pub exit: Exit,
     pub out: MemorySink,
     pub err: MemorySink,
@@ -44,7 +44,7 @@ pub fn run_over<F: Shelf>(
     shelf: &mut F,
     out: Sinking,
     err: Sinking,
-) -> Result<Left, AllocError> {
+) -> Result<Ending, AllocError> {
     let mut args = Vec::new(alloc);
     args.push(String::from_str(alloc, "symbench")?)?;
     for word in words {
@@ -54,11 +54,11 @@ pub fn run_over<F: Shelf>(
     let mut out = sink(alloc, out)?;
     let mut err = sink(alloc, err)?;
     let exit = answer_alone(alloc, words.as_slice(), shelf, &mut out, &mut err);
-    Ok(Left { exit, out, err })
+    Ok(Ending { exit, out, err })
 }
 
 /// Runs a command of these words over an empty shelf.
-pub fn run(alloc: Global, words: &[&str], out: Sinking, err: Sinking) -> Result<Left, AllocError> {
+pub fn run(alloc: Global, words: &[&str], out: Sinking, err: Sinking) -> Result<Ending, AllocError> {
     let mut shelf = QuietShelf::new(Files::of(Vec::new(alloc)));
     run_over(alloc, words, &mut shelf, out, err)
 }

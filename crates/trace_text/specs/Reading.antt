@@ -1,4 +1,4 @@
--- Reading a line.
+-- Reading a line. No public contract rests on these.
 use Rattle.std.specs.Prelude.{ℕ, ◌+◌, ◌*◌, ◌-◌, ◌%◌, ◌^◌, Bool, not, ◌==◌, ◌&&◌, ◌||◌, nat_lt, List, [], ◌∷◌, length, slice_index, Option, Some, None, if◌then◌else◌}
 use Rattle.std.specs.Prelude.{option_map, option_and_then, codes, ◌++◌}
 use Rattle.std.specs.Fmt.{decimal}
