@@ -1,5 +1,7 @@
--- A step makes at most one signal due of each caller, and at most one ticket; so neither is more than there are entries.
+-- A step makes at most one signal due, and at most one ticket; so neither is more than there are entries.
 use Rattle.std.proofs.Common.{arith, ◌≡◌, ◌<◌, ◌≤◌, Bool, true, false, ℕ, zero, suc, ◌+◌, ◌-◌, List, [], ◌∷◌, ◌++◌, length, map, replicate, slice_get, slice_set, slice_index_or, Option, Some, None, refl, sym, ap, subst, ◌∙◌, inl, inr}
+use Rattle.std.specs.List.{sum}
+use Rattle.std.proofs.lemmas.List.Sums.{sum_by-cons}
 use Rattle.rig_types.specs.declared.commands.Command.{Command}
 use Rattle.rig_types.specs.declared.acts.Act.{Act}
 use Rattle.rig_types.specs.declared.acts.ActKind.{ActKind}
@@ -27,30 +29,30 @@ use Rattle.world_law.specs.Steps.{TakesOf, Does}
 use Rattle.world_law.specs.Runs.{Moment, IsRun, last, entries, built}
 use Rattle.world_law.proofs.Effects.{Effect, Counted, effect}
 use Rattle.bench_core.specs.Histories.{IsReplayed}
+use Rattle.bench_core.specs.Counting.{HasFew}
 
--- each caller has at most one signal more
+-- at most one signal more is due
 abbrev OwesOneMore : DeskState → DeskState → Type 0
-OwesOneMore old new = (c : ℕ) → due new c ≤ due old c + 1
+OwesOneMore old new = sum new.due ≤ sum old.due + 1
 
 same : (old new : DeskState) → new.due ≡ old.due → OwesOneMore old new
-same old new e c = omega (arith, ap (λ (ns : List ℕ). slice_index_or ns c 0) e)
+same old new e = omega (arith, ap (λ (ns : List ℕ). sum ns) e)
 
 stays : (d : DeskState) → OwesOneMore d d
-stays d c = omega arith
+stays d = omega arith
 
-set-more : (ns : List ℕ) (at c : ℕ) → slice_index_or (slice_set ns at (slice_index_or ns at 0 + 1)) c 0 ≤ slice_index_or ns c 0 + 1
-set-more [] at c = omega arith
-set-more (n ∷ ns) zero zero = omega arith
-set-more (n ∷ ns) zero (suc c) = omega arith
-set-more (n ∷ ns) (suc at) zero = omega arith
-set-more (n ∷ ns) (suc at) (suc c) = set-more ns at c
+first-summed : (n : ℕ) (ns : List ℕ) → sum (n ∷ ns) ≡ n + sum ns
+first-summed n ns = sum_by-cons (λ (x : ℕ). x) n ns
 
-set-less : (ns : List ℕ) (at c : ℕ) → slice_index_or (slice_set ns at (slice_index_or ns at 0 - 1)) c 0 ≤ slice_index_or ns c 0 + 1
-set-less [] at c = omega arith
-set-less (n ∷ ns) zero zero = omega arith
-set-less (n ∷ ns) zero (suc c) = omega arith
-set-less (n ∷ ns) (suc at) zero = omega arith
-set-less (n ∷ ns) (suc at) (suc c) = set-less ns at c
+set-more : (ns : List ℕ) (at : ℕ) → sum (slice_set ns at (slice_index_or ns at 0 + 1)) ≤ sum ns + 1
+set-more [] at = omega arith
+set-more (n ∷ ns) zero = omega (arith, first-summed n ns, first-summed (n + 1) ns)
+set-more (n ∷ ns) (suc at) = omega (arith, first-summed n ns, first-summed n (slice_set ns at (slice_index_or ns at 0 + 1)), set-more ns at)
+
+set-less : (ns : List ℕ) (at : ℕ) → sum (slice_set ns at (slice_index_or ns at 0 - 1)) ≤ sum ns + 1
+set-less [] at = omega arith
+set-less (n ∷ ns) zero = omega (arith, first-summed n ns, first-summed (n - 1) ns)
+set-less (n ∷ ns) (suc at) = omega (arith, first-summed n ns, first-summed n (slice_set ns at (slice_index_or ns at 0 - 1)), set-less ns at)
 
 -- a step that leads to this world
 led : (old made new : World) → new ≡ made → OwesOneMore old.desk made.desk → OwesOneMore old.desk new.desk
@@ -89,7 +91,7 @@ aborts-none (line.Accepted t) old = marks-none (is_late (ticket old.desk t).stag
 aborts-none (line.Refused r) old = stays old.desk
 
 fronts : (idle : Bool) (old : World) (target : ℕ) → OwesOneMore old.desk (device_resets idle old target).world.desk
-fronts true old target = λ c. set-more old.desk.due (aborter old.desk) c
+fronts true old target = set-more old.desk.due (aborter old.desk)
 fronts false old target = stays old.desk
 
 bus-none : (s : Stop) (old : World) → OwesOneMore old.desk (bus_resets s old).world.desk
@@ -110,8 +112,8 @@ acts-of (Some x) old a new m = led old (acts_by old x.kind).world new m.1 (acts 
 owes-one-more : (g : BenchSetting) (old : World) (caller : ℕ) (s : Step) (a : Reply) (new : World) → Does g old caller s a new → OwesOneMore old.desk new.desk
 owes-one-more g old caller (step.Build l) a new m = builds-of (command_at g l) old l a new m
 owes-one-more g old caller (step.Link t) a new m = led old _ new m.1 (stays old.desk)
-owes-one-more g old caller (step.Queue t) a new m = led old _ new m.1 (λ c. set-more old.desk.due _ c)
-owes-one-more g old caller step.Signal a new m = led old _ new m.1 (λ c. set-less old.desk.due caller c)
+owes-one-more g old caller (step.Queue t) a new m = led old _ new m.1 (set-more old.desk.due _)
+owes-one-more g old caller step.Signal a new m = led old _ new m.1 (set-less old.desk.due caller)
 owes-one-more g old caller (step.Chip word) a new m = led old _ new m.world (stays old.desk)
 owes-one-more g old caller step.Fix a new m = fixes old new m.1
 owes-one-more g old caller (step.Sweep t) a new m = led old _ new m.1 (stays old.desk)
@@ -121,7 +123,7 @@ owes-one-more g old caller (step.Unlink t) a new m = led old _ new m.1 (stays ol
 owes-one-more g old caller (step.Free t) a new m = same old.desk new.desk (ap (λ (d : DeskState). d.due) m.frees.desk)
 owes-one-more g old caller (step.Act k) a new m = acts-of (slice_get g.acts k) old a new m
 owes-one-more g old caller step.ResetBus a new m = led old _ new m.1 (stays old.desk)
-owes-one-more g old caller (step.Sense t) a new m = led old _ new m.1 (λ c. set-more old.desk.due (reaper old.desk) c)
+owes-one-more g old caller (step.Sense t) a new m = led old _ new m.1 (set-more old.desk.due (reaper old.desk))
 
 -- ---- over runs
 
@@ -131,28 +133,19 @@ one-ticket-more old new number c = elim c [
   | inr x ↦ omega (arith, x.1)
 ]
 
--- after so many entries
-pub record HasFew (count : ℕ) (d : DeskState) : Type 0 where
-  pub due : (c : ℕ) → due d c ≤ count
-  pub tickets : length d.tickets ≤ count
-
 few-after : (g : BenchSetting) (ms : List Moment) (w : World) (n : ℕ) → IsRun g w ms → HasFew n w.desk → HasFew (n + length ms) (last w ms).desk
-few-after g [] w n r h = record { due = λ c. omega (arith, h.due c); tickets = omega (arith, h.tickets) }
+few-after g [] w n r h = record { due = omega (arith, h.due); tickets = omega (arith, h.tickets) }
 few-after g (m ∷ ms) w n r h =
     let d : OwesOneMore w.desk m.after.desk = owes-one-more g w m.entry.caller m.entry.step m.reply m.after r.0.does in
     let t : length m.after.desk.tickets ≤ length w.desk.tickets + 1 =
     one-ticket-more w.desk.tickets m.after.desk.tickets (built m.reply) (effect g w m.entry.caller m.entry.step m.reply m.after r.0.enabled r.0.does).counted in
-    let next : HasFew (n + 1) m.after.desk = record { due = λ c. omega (arith, h.due c, d c); tickets = omega (arith, h.tickets, t) } in
+    let next : HasFew (n + 1) m.after.desk = record { due = omega (arith, h.due, d); tickets = omega (arith, h.tickets, t) } in
     let all : HasFew (n + 1 + length ms) (last m.after ms).desk = few-after g ms m.after (n + 1) r.1 next in
-    record { due = λ c. omega (arith, all.due c); tickets = omega (arith, all.tickets) }
+    record { due = omega (arith, all.due); tickets = omega (arith, all.tickets) }
 
-abbrev owing : List ℕ → ℕ → ℕ
-owing ns c = slice_index_or ns c 0
-
-zeros : (n c : ℕ) → owing (replicate n 0) c ≡ 0
-zeros zero c = refl
-zeros (suc n) zero = refl
-zeros (suc n) (suc c) = zeros n c
+zeros : (n : ℕ) → sum (replicate n 0) ≡ 0
+zeros zero = refl
+zeros (suc n) = omega (arith, first-summed 0 (replicate n 0), zeros n)
 
 entries-length : (ms : List Moment) → length (entries ms) ≡ length ms
 entries-length [] = refl
@@ -160,8 +153,8 @@ entries-length (m ∷ ms) = omega (arith, entries-length ms)
 
 pub few_of : (g : BenchSetting) (es : List Entry) (w : World) → IsReplayed g es w → HasFew (length es) w.desk
 few_of g es w h =
-    let start : HasFew 0 (opened g).desk = record { due = λ c. omega (arith, zeros (length g.submitters + 3) c); tickets = omega arith } in
+    let start : HasFew 0 (opened g).desk = record { due = omega (arith, zeros (length g.submitters + 3)); tickets = omega arith } in
     let all : HasFew (0 + length h.moments) (last (opened g) h.moments).desk = few-after g h.moments (opened g) 0 h.run start in
     let here : HasFew (0 + length h.moments) w.desk = subst (λ (x : World). HasFew (0 + length h.moments) x.desk) h.world all in
     let count : length es ≡ length h.moments = ap (λ (xs : List Entry). length xs) (sym h.are) ∙ entries-length h.moments in
-    record { due = λ c. omega (arith, here.due c, count); tickets = omega (arith, here.tickets, count) }
+    record { due = omega (arith, here.due, count); tickets = omega (arith, here.tickets, count) }

@@ -7,3 +7,5 @@ pub mod Fixing
 pub mod Replays
 pub mod Growth
 pub mod Settled
+pub mod CountLaws
+pub mod Decided

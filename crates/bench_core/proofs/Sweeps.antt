@@ -9,7 +9,7 @@ use Rattle.chip_regs.specs.declared.registers.Cause.TheVariants as cause
 use Rattle.desk_law.specs.declared.stage.Stage.{Stage}
 use Rattle.desk_law.specs.declared.stage.Stage.TheVariants as stage
 use Rattle.desk_law.specs.declared.ticket.Ticket.{Ticket}
-use Rattle.desk_law.specs.Desk.{DeskState, no_ticket, ticket, is_freed, is_queued, is_sensing}
+use Rattle.desk_law.specs.Desk.{DeskState, no_ticket, ticket, lives, is_queued, is_sensing}
 use Rattle.desk_law.specs.Rings.{passed, waits}
 use Rattle.driver_desk.specs.Conditions.{MayEnd}
 use Rattle.driver_desk.proofs.Stages.{running_lives}
@@ -62,6 +62,9 @@ swept_may_end w t h = swept-ends w (ticket w.desk t) h
 
 pub swept_is_there : (w : World) (t : ℕ) → to_sweep w (ticket w.desk t) ≡ true → t < length w.desk.tickets
 swept_is_there w t h = is_there w.desk t (running_lives (ticket w.desk t).stage (swept_may_end w t h))
+
+pub swept_lives : (w : World) (t : ℕ) → to_sweep w (ticket w.desk t) ≡ true → lives (ticket w.desk t) ≡ true
+swept_lives w t h = ap not (running_lives (ticket w.desk t).stage (swept_may_end w t h))
 
 -- a ticket that was never built isn't to be swept
 pub none_to_sweep : (w : World) → to_sweep w no_ticket ≡ false

@@ -1,10 +1,10 @@
 -- A ticket in a stage other than Freed was built, and a caller of whom a signal is due is one of the work.
-use Rattle.std.proofs.Common.{arith, ◌≡◌, ◌<◌, ◌≤◌, ℕ, zero, suc, false, List, [], ◌∷◌, length, slice_index_or, Some, refl, ap}
+use Rattle.std.proofs.Common.{arith, ◌≡◌, ◌<◌, ◌≤◌, ◌==◌, ◌&&◌, Bool, ℕ, zero, suc, not, true, false, List, [], ◌∷◌, length, slice_index_or, Some, refl, ap}
 use Rattle.desk_law.specs.declared.stage.Stage.{Stage}
 use Rattle.desk_law.specs.declared.stage.Stage.TheVariants as stage
 use Rattle.desk_law.specs.declared.ticket.Ticket.{Ticket}
 use Rattle.std.proofs.lemmas.List.Quantifiers.{position-Some}
-use Rattle.desk_law.specs.Desk.{DeskState, no_ticket, ticket, ticket_at, has_block, is_freed, due}
+use Rattle.desk_law.specs.Desk.{DeskState, no_ticket, ticket, ticket_at, has_block, lives, is_freed, due}
 use Rattle.driver_desk.specs.Conditions.{MayQueue, MayEnd, IsEnded}
 use Rattle.driver_desk.proofs.Stages.{queueable_lives, ended_lives}
 
@@ -55,3 +55,31 @@ past (n ∷ ns) (suc c) h = past ns c (omega (arith, h))
 
 pub none_due : (d : DeskState) (c : ℕ) → length d.due ≤ c → due d c ≡ 0
 none_due d c h = past d.due c h
+
+-- ---- it lives
+
+is-live : (d : DeskState) (t : ℕ) → is_freed (ticket d t).stage ≡ false → lives (ticket d t) ≡ true
+is-live d t e = ap not e
+
+pub built_is_live : (d : DeskState) (t : ℕ) → (ticket d t).stage ≡ stage.Built → lives (ticket d t) ≡ true
+built_is_live d t e = is-live d t (ap is_freed e)
+
+pub checked_is_live : (d : DeskState) (t : ℕ) → (ticket d t).stage ≡ stage.Check → lives (ticket d t) ≡ true
+checked_is_live d t e = is-live d t (ap is_freed e)
+
+pub queueable_is_live : (d : DeskState) (t : ℕ) → MayQueue (ticket d t).stage → lives (ticket d t) ≡ true
+queueable_is_live d t h = is-live d t (queueable_lives (ticket d t).stage h)
+
+pub ended_is_live : (d : DeskState) (t : ℕ) → IsEnded (ticket d t).stage → lives (ticket d t) ≡ true
+ended_is_live d t h = is-live d t (ended_lives (ticket d t).stage h)
+
+first : (a b : Bool) → a && b ≡ true → a ≡ true
+first true b h = refl
+first false b h = absurd cc
+
+live-of : (block : ℕ) (k : Ticket) → has_block block k ≡ true → lives k ≡ true
+live-of block k h = first (lives k) (k.block == block) h
+
+pub done_is_live : (d : DeskState) (block t : ℕ) → ticket_at d block ≡ Some t → lives (ticket d t) ≡ true
+done_is_live d block t found = live-of block (ticket d t) (position-Some (has_block block) d.tickets t no_ticket found).1
+

@@ -1,10 +1,10 @@
 //! The steps that the desk makes: Link, Queue, Signal, Sense, TakeDone and Unlink.
 
-ghost use Rattle.std.specs.Prelude.{◌≡◌, ◌<◌, ◌+◌, ◌^◌, IsSome};
+ghost use Rattle.std.specs.Prelude.{◌≡◌, ◌<◌, ◌+◌, ◌^◌, sum, IsSome};
 ghost use Rattle.desk_law.specs.declared.stage.Stage.TheVariants.{Built, Check};
-ghost use Rattle.desk_law.specs.Desk.{ticket, due, reaper, paid};
+ghost use Rattle.desk_law.specs.Desk.{ticket, due, paid};
 ghost use Rattle.desk_law.specs.Rings.{done_ticket};
-ghost use Rattle.desk_law.specs.Calls.{links, link_memory, queues, queue_memory, queue_caller, signalled, senses, sense_memory, unlinks, unlink_memory};
+ghost use Rattle.desk_law.specs.Calls.{links, link_memory, queues, queue_memory, signalled, senses, sense_memory, unlinks, unlink_memory};
 ghost use Rattle.driver_desk.specs.Conditions.{MayQueue, IsEnded, next_done};
 ghost use Rattle.world_law.specs.Steps.{taken};
 ghost use Rattle.bench_core.specs.States.{with_world};
@@ -14,7 +14,7 @@ use desk_law::Taken;
 
 impl State {
     /// Enters the block of a ticket under its tag.
-    #[tactic(auto, using(crate::proofs::TicketLaws::built_is_there))]
+    #[tactic(auto, using(crate::proofs::TicketLaws::built_is_there, crate::proofs::TicketLaws::built_is_live, crate::proofs::CountLaws::live_count_stays, crate::proofs::CountLaws::due_within))]
     pub fn link(&mut self, t: u32)
         requires { (ticket self.old.world.desk t).stage ≡ Built }
         ensures { self.new ≡ with_world self.old (record self.old.world {
@@ -26,11 +26,10 @@ impl State {
     }
 
     /// Puts the block of a ticket into the start ring, and makes a signal due.
-    #[tactic(auto, using(crate::proofs::TicketLaws::queueable_is_there))]
+    #[tactic(auto, using(crate::proofs::TicketLaws::queueable_is_there, crate::proofs::TicketLaws::queueable_is_live, crate::proofs::CountLaws::live_count_stays, crate::proofs::CountLaws::due_within))]
     pub fn queue(&mut self, t: u32)
         requires ready { MayQueue (ticket self.old.world.desk t).stage }
-        requires few { due self.old.world.desk (queue_caller (ticket self.old.world.desk t).stage self.old.world.desk
-            (ticket self.old.world.desk t)) + 1 < 2 ^ 32 }
+        requires few { sum self.old.world.desk.due + 1 < 2 ^ 32 }
         ensures { self.new ≡ with_world self.old (record self.old.world {
           memory = queue_memory self.old.world.desk t self.old.world.memory;
           desk = queues self.old.world.desk t;
@@ -52,10 +51,10 @@ impl State {
     }
 
     /// Makes a REQUEST SENSE of the block of a ticket, at FRONT, and a signal of the reaper due.
-    #[tactic(auto, using(crate::proofs::TicketLaws::checked_is_there))]
+    #[tactic(auto, using(crate::proofs::TicketLaws::checked_is_there, crate::proofs::TicketLaws::checked_is_live, crate::proofs::CountLaws::live_count_stays, crate::proofs::CountLaws::due_within))]
     pub fn sense(&mut self, t: u32)
         requires check { (ticket self.old.world.desk t).stage ≡ Check }
-        requires few { due self.old.world.desk (reaper self.old.world.desk) + 1 < 2 ^ 32 }
+        requires few { sum self.old.world.desk.due + 1 < 2 ^ 32 }
         ensures { self.new ≡ with_world self.old (record self.old.world {
           memory = sense_memory self.old.world.desk t self.old.world.memory;
           desk = senses self.old.world.desk t;
@@ -76,7 +75,7 @@ impl State {
     }
 
     /// Frees the tag entry of a ticket that ended.
-    #[tactic(auto, using(crate::proofs::TicketLaws::ended_is_there))]
+    #[tactic(auto, using(crate::proofs::TicketLaws::ended_is_there, crate::proofs::TicketLaws::ended_is_live, crate::proofs::CountLaws::live_count_stays, crate::proofs::CountLaws::due_within))]
     pub fn unlink(&mut self, t: u32)
         requires { IsEnded (ticket self.old.world.desk t).stage }
         ensures { self.new ≡ with_world self.old (record self.old.world {

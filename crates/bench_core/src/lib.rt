@@ -4,6 +4,7 @@
 
 mod acting;
 mod desk_steps;
+mod drained;
 mod enabling;
 mod reading;
 mod repairing;

@@ -1,6 +1,6 @@
 //! The world of a run, as the code keeps it.
 
-ghost use Rattle.std.specs.Prelude.{◌≡◌, slice_index_or};
+ghost use Rattle.std.specs.Prelude.{◌≡◌, length, slice_index_or};
 ghost use Rattle.world_law.specs.declared.reply.Decided.TheVariants.{Open};
 
 use bench_words::Words;
@@ -27,6 +27,13 @@ impl Model for Lines {
 }
 
 impl Lines {
+    /// How many lines are decided.
+    pub(crate) fn count(&self) -> usize
+        ensures { result ≡ length self.now }
+    {
+        self.held.len()
+    }
+
     /// What became of a line, by its number: `Open` past the end.
     pub(crate) fn at(&self, number: u32) -> Decided
         ensures { result ≡ slice_index_or self.now number Open }
@@ -53,6 +60,8 @@ pub struct State {
     pub(crate) lines: Vec<Lines>,
     pub(crate) acts: Vec<Reply>,
     pub(crate) reports: Vec<Report>,
+    /// How many tickets live.
+    pub(crate) live: u32,
 }
 
 impl Model for State {
@@ -74,5 +83,6 @@ impl Model for State {
       reports = s.reports.items;
     } } };
 
-    ghost invariant = { λ s. IsHeld (setting_of s.rig s.work) s.words s.desk (vec_capacity s.acts) };
+    ghost invariant = { λ s. IsHeld (setting_of s.rig s.work) s.words s.desk s.lines.items
+        (vec_capacity s.acts) s.live };
 }

@@ -155,7 +155,7 @@ impl State {
     }
 
     /// Ends a ticket that is to be swept, and closes its block to the script.
-    #[tactic(auto, using(crate::proofs::Sweeps::swept_is_there, crate::proofs::Sweeps::swept_may_end))]
+    #[tactic(auto, using(crate::proofs::Sweeps::swept_is_there, crate::proofs::Sweeps::swept_may_end, crate::proofs::Sweeps::swept_lives, crate::proofs::CountLaws::live_count_stays))]
     pub fn sweep(&mut self, t: u32)
         requires { to_sweep self.old.world (ticket self.old.world.desk t) ≡ true }
         ensures { self.new ≡ with_world self.old (sweeps self.old.world t) }
