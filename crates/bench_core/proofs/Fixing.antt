@@ -23,7 +23,7 @@ by-move w m at None e some can wrote there = absurd cc
 by-move w m at (Some x) e some can wrote there =
     subst (λ (a : ℕ). Repairs w (after w m a)) (sym there)
     (subst (λ (n : List ℕ). Repairs w (after w n (label_of Dispatch))) (sym (wrote x (sym e)))
-    (record { can_fix = can; move = x; is = sym e; world = refl; }))
+    (record { can_fix = can; move = x; is = sym e; world = refl }))
 
 pub fixes_so : (b c : BenchState) (m : List ℕ) (at : ℕ) → b ≡ c → CanFix b.world
     → ForSome (move_at (b.world.regs.dsp - 8)) (λ (x : DataMove). m ≡ repaired b.world.memory b.world.regs.dsa b.world.regs.dsp b.world.regs.dbc x)

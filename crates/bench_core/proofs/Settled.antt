@@ -127,6 +127,7 @@ builds g caller c old l (reply.Built t) new e m h =
   where
     from-zero : (k : ℕ) → k ≡ 0 + k
     from-zero k = omega arith
+
     suc-is : (k : ℕ) → suc k ≡ k + 1
     suc-is k = omega arith
 builds g caller c old l (reply.Refused r) new e m h =
@@ -238,8 +239,14 @@ settled-in d (x ∷ xs) =
 settled-all : (d : DeskState) (lss : List (List Decided)) → sum_by (λ (ls : List Decided). count_by (is_settled d) ls) lss ≡ refused_count lss + accepted_of (freed d) lss
 settled-all d [] = refl
 settled-all d (ls ∷ lss) =
-    omega (arith, sum_by-cons (λ (xs : List Decided). count_by (is_settled d) xs) ls lss, sum_by-cons (λ (xs : List Decided). count_by is_refused xs) ls lss,
-    sum_by-cons (accepted_in (freed d)) ls lss, settled-in d ls, settled-all d lss)
+    omega (
+      arith,
+      sum_by-cons (λ (xs : List Decided). count_by (is_settled d) xs) ls lss,
+      sum_by-cons (λ (xs : List Decided). count_by is_refused xs) ls lss,
+      sum_by-cons (accepted_in (freed d)) ls lss,
+      settled-in d ls,
+      settled-all d lss,
+    )
 
 -- counting numbers is counting tickets
 below-list : (ks : List Ticket) (p : ℕ → Bool) (from : ℕ) → ((t : ℕ) → t < length ks → p (from + t) ≡ is_over (slice_index_or ks t no_ticket))
@@ -251,6 +258,7 @@ below-list (k ∷ ks) p from e =
   where
     plus-zero : (k : ℕ) → k ≡ k + 0
     plus-zero k = omega arith
+
     moved : (k m : ℕ) → k + 1 + m ≡ k + suc m
     moved k m = omega arith
 

@@ -82,4 +82,3 @@ live-of block k h = first (lives k) (k.block == block) h
 
 pub done_is_live : (d : DeskState) (block t : ℕ) → ticket_at d block ≡ Some t → lives (ticket d t) ≡ true
 done_is_live d block t found = live-of block (ticket d t) (position-Some (has_block block) d.tickets t no_ticket found).1
-

@@ -16,11 +16,7 @@ fn is_late(stage: Stage) -> bool
     ensures { result ≡ is_late stage }
 {
     match stage {
-        Stage::Check
-        | Stage::Sensing
-        | Stage::Ended(_)
-        | Stage::Unlinked
-        | Stage::Freed => true,
+        Stage::Check | Stage::Sensing | Stage::Ended(_) | Stage::Unlinked | Stage::Freed => true,
         Stage::Built | Stage::Linked | Stage::Queued | Stage::Again => false,
     }
 }

@@ -15,7 +15,9 @@ impl State {
         ensures { result ≡ is_ended_by_script self.now.world (ticket self.now.world.desk t) }
     {
         let state = read(&self.words, self.desk.block(t), Field::State);
-        matches!(self.desk.stage(t), Stage::Queued | Stage::Sensing) && ENDED <= state && state <= NO_TARGET
+        matches!(self.desk.stage(t), Stage::Queued | Stage::Sensing)
+            && ENDED <= state
+            && state <= NO_TARGET
     }
 
     /// Whether the done slot holds the block of a ticket to take.

@@ -71,17 +71,20 @@ impl Model for State {
 
     ghost Value = { BenchState };
 
-    ghost view = { λ s. record { setting = setting_of s.rig s.work; world = record {
-      memory = s.words;
-      regs = s.regs;
-      bus = s.bus;
-      desk = s.desk;
-      stop = s.stop;
-      resume = s.resume;
-      lines = s.lines.items;
-      acts = s.acts.items;
-      reports = s.reports.items;
-    } } };
+    ghost view = { λ s. record {
+      setting = setting_of s.rig s.work;
+      world = record {
+        memory = s.words;
+        regs = s.regs;
+        bus = s.bus;
+        desk = s.desk;
+        stop = s.stop;
+        resume = s.resume;
+        lines = s.lines.items;
+        acts = s.acts.items;
+        reports = s.reports.items;
+      };
+    } };
 
     ghost invariant = { λ s. IsHeld (setting_of s.rig s.work) s.words s.desk s.lines.items
         (vec_capacity s.acts) s.live };
