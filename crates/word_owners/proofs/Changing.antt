@@ -45,7 +45,7 @@ pub record Spares (w n : ℕ → ℕ) (ts : Tickets) : Type 0 where
 
 module _ (version : ℕ) (w n : ℕ → ℕ) (ts : Tickets) (c : Counts) (o : Option ℕ) (few : length ts.units ≤ 16) where
   -- work on a ticket goes on where its STATE, the start ring and FRONT stay
-  may-work : (t : ℕ) → SameState w n ts t → Same w n 0x2000 0x3000 → n FRONT ≡ w FRONT → MayWork w ts c t → MayWork n ts c t
+  pub may-work : (t : ℕ) → SameState w n ts t → Same w n 0x2000 0x3000 → n FRONT ≡ w FRONT → MayWork w ts c t → MayWork n ts c t
   may-work t e s f h = record { begun = begun-frame w n ts t e h.begun; out = not_starting-frame w n c (block_of ts t) s f h.out; there = h.there }
 
   pub parts-spared : Spares w n ts → Parts version w ts c o → Parts version n ts c o

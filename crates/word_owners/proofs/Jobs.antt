@@ -97,6 +97,7 @@ job_holds version units s c w caller target idle low h =
       few_units = h.few_units;
       version_is = h.version_is;
       tickets = h.tickets;
+      checked = h.checked;
       put = h.put;
       take = h.take;
       parts = parts-front version mid n ts c o few_units h.tickets JOB q (inr refl) (parts-spared version v mid ts c o few_units (spares-job v mid ts (target * 0x10000) h.tickets r) h.parts);

@@ -12,3 +12,9 @@ pub mod Restarting
 pub mod Jobs
 pub mod Room
 pub mod Sweeping
+pub mod Queueing
+pub mod Taking
+pub mod Fixing
+pub mod Freeing
+pub mod Sensing
+pub mod Jumping

@@ -1,5 +1,5 @@
 -- A desk with one ticket changed, as ownership reads it.
-use Rattle.std.proofs.Common.{◌≡◌, ◌≢◌, inl, inr, ℕ, zero, suc, ◌<◌, List, [], ◌∷◌, length, slice_set, slice_index_or, refl, sym, ap, ◌∙◌, arith, Bool}
+use Rattle.std.proofs.Common.{◌≡◌, ◌≢◌, inl, inr, ℕ, zero, suc, ◌<◌, List, [], ◌∷◌, length, slice_set, slice_index_or, refl, sym, ap, subst, ◌∙◌, arith, Bool, true}
 use Rattle.std.specs.Prelude.{◌&&◌, not}
 use Rattle.std.proofs.lemmas.List.{get_or-set_same, get_or-set_other}
 use Rattle.desk_law.specs.declared.stage.Stage.{Stage}
@@ -7,7 +7,7 @@ use Rattle.desk_law.specs.declared.stage.Stage.TheVariants.{Freed}
 use Rattle.desk_law.specs.declared.ticket.Ticket.{Ticket}
 use Rattle.desk_law.specs.Desk.{DeskState, ticket, with_ticket, no_ticket}
 use Rattle.desk_law.specs.Blocks.{own, begins_at}
-use Rattle.word_owners.specs.Tickets.{Fixed, is_check, fixed_of, tickets_of}
+use Rattle.word_owners.specs.Tickets.{Fixed, is_check, fixed_of, tickets_of, IsAskedFor, AreChecked}
 use Rattle.word_owners.proofs.Frames.{same_or}
 use Rattle.word_owners.proofs.Turning.{Turns, staged}
 
@@ -57,3 +57,12 @@ same-fixed k s e = ap (λ (x : Bool). record {
   begins = begins_at k;
   turned = k.checked && not x;
 }) e
+
+-- one ticket was changed, and is checked if its sense is asked for
+pub desk-checked : (d : DeskState) (t : ℕ) (k : Ticket) → (ticket d t).stage ≢ Freed → (IsAskedFor k.stage → k.checked ≡ true) → AreChecked d → AreChecked (with_ticket d t k)
+desk-checked d t k live f h u e =
+    let l = live-within d.tickets t live in
+    elim (same_or u t) [
+      | inl z ↦ subst (λ (x : Ticket). IsAskedFor x.stage → x.checked ≡ true) (sym (ap (λ (i : ℕ). at (slice_set d.tickets t k) i) z ∙ set-here d.tickets t k l)) f e
+      | inr z ↦ subst (λ (x : Ticket). IsAskedFor x.stage → x.checked ≡ true) (sym (set-other d.tickets t k l u z)) (h u) e
+    ]

@@ -68,6 +68,7 @@ block-patch version units s c w t h few_units m b f g size bytes =
       size = size;
       bytes = bytes;
       version_is = h.version_is;
+      checked = h.checked;
       put = h.put;
       take = h.take;
       tickets = h.tickets;

@@ -10,7 +10,7 @@ use Rattle.opening_memory.specs.Tables.{written}
 use Rattle.opening_memory.specs.Opening.{opening_table, IsOpening}
 use Rattle.opening_memory.specs.Laws.{IsOpened}
 use Rattle.opening_memory.proofs.OpeningLaws.{says_names}
-use Rattle.desk_law.specs.declared.stage.Stage.TheVariants.{Built, Linked, Freed}
+use Rattle.desk_law.specs.declared.stage.Stage.TheVariants.{Built, Linked, Check, Sensing, Freed}
 use Rattle.world_law.specs.World.{BenchSetting}
 use Rattle.world_law.specs.Opening.{memory_opened, opened}
 use Rattle.world_law.proofs.Opens.{opens}
@@ -89,6 +89,10 @@ holds_opened g few =
       few_units = few;
       version_is = refl;
       tickets = no-tickets g;
+      checked = λ t e. elim e [
+        | inl i ↦ let q : Freed ≡ Check = i in absurd cc
+        | inr i ↦ let q : Freed ≡ Sensing = i in absurd cc
+      ];
       put = refl;
       take = refl;
       parts = parts-opened g o;

@@ -19,7 +19,7 @@ use Rattle.desk_law.specs.Desk.{DeskState, ticket}
 use Rattle.desk_law.specs.Calls.{links, link_memory, unlinks, unlink_memory, signalled}
 use Rattle.world_law.specs.World.{World}
 use Rattle.world_law.specs.Enabling.{IsEnded}
-use Rattle.word_owners.specs.Tickets.{Tickets, tickets_of, is_check, block_of, IsLive, IsActive, IsBound, IsTurned, AreTickets}
+use Rattle.word_owners.specs.Tickets.{Tickets, tickets_of, is_check, block_of, IsLive, IsActive, IsBound, IsTurned, AreTickets, AreChecked}
 use Rattle.word_owners.specs.Parts.{Counts, TagTables, IsStart}
 use Rattle.word_owners.specs.Works.{Role, role, worker}
 use Rattle.word_owners.specs.Holds.{Spot, Holds, closing_at, work_at}
@@ -29,7 +29,7 @@ use Rattle.word_owners.proofs.Frames.{same_or, active-live, fixed-frame, not_sta
 use Rattle.word_owners.proofs.Turning.{Turns, staged, aside, Fits, parts-turned, tickets-turned, work-turned, worker-active}
 use Rattle.word_owners.proofs.Changing.{Spares, parts-spared}
 use Rattle.word_owners.proofs.Moving.{Onward, work-onward}
-use Rattle.word_owners.proofs.Lists.{desk-turns, desk-staged, same-fixed}
+use Rattle.word_owners.proofs.Lists.{desk-turns, desk-staged, desk-checked, same-fixed}
 use Rattle.word_owners.proofs.Staying.{Patch, patched, quiet_holds, entries-at, unasked-same, closing-worker}
 
 -- ---- Signal
@@ -56,6 +56,7 @@ signal_holds version units s c w caller h =
       few_units = q.few_units;
       version_is = q.version_is;
       tickets = q.tickets;
+      checked = q.checked;
       put = q.put;
       take = q.take;
       parts = q.parts;
@@ -148,10 +149,10 @@ tags-linked w n ts new t s d few l turns b r h =
 
 module _ (version : ℕ) (units : List RigUnit) (s : Spot) (c : Counts) (w : World) (t : ℕ) (h : Holds version units s c w) where
   -- a ticket that isn't active isn't at work, and its GATE isn't open
-  idle-worker : (IsActive (ticket w.desk t).stage → ⊥) → (u : ℕ) → worker (role (work_at s)) ≡ Some u → u ≢ t
+  pub idle-worker : (IsActive (ticket w.desk t).stage → ⊥) → (u : ℕ) → worker (role (work_at s)) ≡ Some u → u ≢ t
   idle-worker a u e z = a (subst (λ (i : ℕ). IsActive ((tickets_of w.desk).stage i)) z (worker-active (role (work_at s)) (word_at w.memory) (tickets_of w.desk) c u e h.works.plays))
 
-  idle-gate : IsLive (ticket w.desk t).stage → (IsActive (ticket w.desk t).stage → ⊥) → field (word_at w.memory) (ticket w.desk t).block Gate ≢ 0x1B0
+  pub idle-gate : IsLive (ticket w.desk t).stage → (IsActive (ticket w.desk t).stage → ⊥) → field (word_at w.memory) (ticket w.desk t).block Gate ≢ 0x1B0
   idle-gate l a e = a ((h.parts.gates t l (λ k. idle-worker a t (closing-worker s t k) refl) e).begun.stage)
 
   pub few : length (tickets_of w.desk).units ≤ 16
@@ -167,8 +168,8 @@ module _ (version : ℕ) (units : List RigUnit) (s : Spot) (c : Counts) (w : Wor
     tag-few = h.tickets.tag t f.live
 
     tag-patch : length m ≡ length w.memory → IsBytes m → desk.version ≡ w.desk.version → desk.put ≡ w.desk.put → desk.take ≡ w.desk.take → (IsActive (ticket w.desk t).stage → ⊥)
-        → (((tickets_of w.desk).fixed t).turned ≡ true → IsTurned x) → TagTables (word_at m) (staged (tickets_of w.desk) new) → Patch version s c c w m desk new
-    tag-patch size bytes same put take a turned tags =
+        → (((tickets_of w.desk).fixed t).turned ≡ true → IsTurned x) → TagTables (word_at m) (staged (tickets_of w.desk) new) → AreChecked desk → Patch version s c c w m desk new
+    tag-patch size bytes same put take a turned tags checked =
         let ts = tickets_of w.desk in
         let b = word_at w.memory in
         let n = word_at m in
@@ -177,6 +178,7 @@ module _ (version : ℕ) (units : List RigUnit) (s : Spot) (c : Counts) (w : Wor
           size = size;
           bytes = bytes;
           version_is = same ∙ h.version_is;
+          checked = checked;
           put = put ∙ h.put;
           take = take ∙ h.take;
           tickets = d;
@@ -219,7 +221,8 @@ link_holds version units s c w t h b =
     let p = tag-patch version units s c w t h (ticket d t).block stage.Linked m (links d t) new turns f r (length-put_word w.memory (tag_entry (ticket d t).unit (ticket d t).tag) (ticket d t).block)
     (bytes-put_word w.memory (tag_entry (ticket d t).unit (ticket d t).tag) (ticket d t).block h.bytes) refl refl refl still
     (λ e. absurd (subst IsTurned b (h.tickets.turned t e)))
-    (tags-linked (word_at w.memory) (word_at m) ts new t stage.Linked h.tickets few_units live turns bound r h.tags) in
+    (tags-linked (word_at w.memory) (word_at m) ts new t stage.Linked h.tickets few_units live turns bound r h.tags)
+    (desk-checked d t k live (λ e. elim e [ inl i ↦ absurd cc | inr i ↦ absurd cc ]) h.checked) in
     patched version units s c c.queued c.taken w m (links d t) new h p (desk-staged d t k live (same-fixed (ticket d t) stage.Linked (ap is_check (sym b))))
 
 -- a ticket that is no longer bound, whose entry has none
@@ -322,5 +325,6 @@ unlink_holds version units s c w t h b =
     } in
     let p = tag-patch version units s c w t h NOTASK stage.Unlinked m (unlinks d t) new turns f r (length-put_word w.memory (tag_entry (ticket d t).unit (ticket d t).tag) NOTASK)
     (bytes-put_word w.memory (tag_entry (ticket d t).unit (ticket d t).tag) NOTASK h.bytes) refl refl refl still (λ e. tt)
-    (tags-unlinked (word_at w.memory) (word_at m) ts new t stage.Unlinked h.tickets few_units live turns (λ e. e.still refl) r h.tags) in
+    (tags-unlinked (word_at w.memory) (word_at m) ts new t stage.Unlinked h.tickets few_units live turns (λ e. e.still refl) r h.tags)
+    (desk-checked d t k live (λ e. elim e [ inl i ↦ absurd cc | inr i ↦ absurd cc ]) h.checked) in
     patched version units s c c.queued c.taken w m (unlinks d t) new h p (desk-staged d t k live (same-fixed (ticket d t) stage.Unlinked (ended-check (ticket d t).stage b)))

@@ -136,6 +136,7 @@ module _ (version : ℕ) (units : List RigUnit) (s : Spot) (c : Counts) (w : Wor
         few_units = h.few_units;
         version_is = h.version_is;
         tickets = h.tickets;
+        checked = h.checked;
         put = h.put;
         take = h.take;
         parts = parts-front version v n ts c (about p).closing few_units h.tickets FRONT_IDLE r (inl refl) (subst (λ (o : Option ℕ). Parts version v ts c o) closing h.parts);

@@ -57,6 +57,7 @@ module _ (version : ℕ) (units : List RigUnit) (s : Spot) (c : Counts) (w : Wor
     few_units = h.few_units;
     version_is = h.version_is;
     tickets = h.tickets;
+    checked = h.checked;
     put = h.put;
     take = h.take;
     parts = subst (λ (o : Option ℕ). Parts version (word_at w.memory) (tickets_of w.desk) c o) closing h.parts;
@@ -82,6 +83,7 @@ module _ (version : ℕ) (units : List RigUnit) (s : Spot) (c : Counts) (w : Wor
         few_units = h.few_units;
         version_is = h.version_is;
         tickets = h.tickets;
+        checked = h.checked;
         put = h.put;
         take = h.take;
         parts = parts-front version v n ts c None few_units h.tickets FRONT_IDLE r (inl refl) (subst (λ (o : Option ℕ). Parts version v ts c o) closing h.parts);

@@ -19,7 +19,7 @@ use Rattle.bus_law.specs.Bus.{BusState}
 use Rattle.desk_law.specs.Desk.{DeskState}
 use Rattle.world_law.specs.declared.reply.Stop.{Stop}
 use Rattle.world_law.specs.World.{World}
-use Rattle.word_owners.specs.Tickets.{Tickets, tickets_of, AreTickets, block_of, target_of}
+use Rattle.word_owners.specs.Tickets.{Tickets, tickets_of, AreTickets, AreChecked, block_of, target_of}
 use Rattle.word_owners.specs.Points.{Point, At228, At230, about, Link, OfTicket, OfTarget, Nobody, Anyone}
 use Rattle.word_owners.specs.Parts.{Counts, Parts, TagTables}
 use Rattle.word_owners.specs.Works.{Works, Has, Holding, role, worker, block_by, own_block}
@@ -113,6 +113,7 @@ pub record Patch (version : ℕ) (s : Spot) (c d : Counts) (w : World) (m : List
   pub put : desk.put ≡ start_slot d.queued
   pub take : desk.take ≡ done_slot d.taken
   pub tickets : AreTickets (staged (tickets_of w.desk) new)
+  pub checked : AreChecked desk
   pub parts : Parts version (word_at m) (staged (tickets_of w.desk) new) d (closing_at s)
   pub tags : TagTables (word_at m) (staged (tickets_of w.desk) new)
   pub donep : word_at m DONEP ≡ word_at w.memory DONEP
@@ -130,6 +131,7 @@ patched version units s c queued taken w m desk new h p e =
       few_units = h.few_units;
       version_is = p.version_is;
       tickets = p.tickets;
+      checked = p.checked;
       put = p.put;
       take = p.take;
       parts = p.parts;
@@ -201,6 +203,7 @@ quiet_holds version units s c w n h e = record {
   few_units = h.few_units;
   version_is = h.version_is;
   tickets = h.tickets;
+  checked = h.checked;
   put = h.put;
   take = h.take;
   parts = h.parts;

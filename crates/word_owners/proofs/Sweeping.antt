@@ -48,7 +48,7 @@ use Rattle.word_owners.proofs.Staying.{patched}
 use Rattle.word_owners.proofs.Marking.{block-patch}
 use Rattle.word_owners.proofs.Resetting.{asked-outside}
 use Rattle.word_owners.proofs.Restarting.{move-far, not-far}
-use Rattle.word_owners.proofs.Lists.{desk-turns, desk-staged, same-fixed}
+use Rattle.word_owners.proofs.Lists.{desk-turns, desk-staged, desk-checked, same-fixed}
 use Rattle.job_rings.proofs.RingLaws.{counts_start_slots}
 use Rattle.word_owners.proofs.Room.{start-room}
 use Rattle.word_owners.proofs.Patches.{few}
@@ -380,6 +380,7 @@ sweep_holds version units s c w t h e =
       size = p.size;
       bytes = p.bytes;
       version_is = h.version_is;
+      checked = desk-checked d t j live (λ q. elim q [ inl i ↦ absurd cc | inr i ↦ absurd cc ]) h.checked;
       put = h.put;
       take = h.take;
       tickets = tickets-turned n ts new t (stage.Ended out) turns live (λ q. tt) h.tickets;

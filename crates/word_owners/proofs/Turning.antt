@@ -88,7 +88,7 @@ module _ (w : ℕ → ℕ) (ts : Tickets) (new : ℕ → Stage) (t : ℕ) (s : S
   asks-turned : (u : ℕ) → u ≢ t → Asks w ts u → Asks w (staged ts new) u
   asks-turned u ne h = record { is = h.is; stage = turns.other u ne ∙ h.stage; live = h.live }
 
-  works-turned : (c : Counts) (u : ℕ) → u ≢ t → MayWork w ts c u → MayWork w (staged ts new) c u
+  pub works-turned : (c : Counts) (u : ℕ) → u ≢ t → MayWork w ts c u → MayWork w (staged ts new) c u
   works-turned c u ne h = record { begun = begun-turned u ne h.begun; out = h.out; there = h.there }
 
   -- a ticket whose block is another than that of t
@@ -155,7 +155,7 @@ module _ (w : ℕ → ℕ) (ts : Tickets) (new : ℕ → Stage) (t : ℕ) (s : S
     | inr z ↦ h u (subst IsFresh (turns.other u z) k)
   ]
 
-  answered-turned : (u : ℕ) → u ≢ t → HasAnswered w (staged ts new) u → HasAnswered w ts u
+  pub answered-turned : (u : ℕ) → u ≢ t → HasAnswered w (staged ts new) u → HasAnswered w ts u
   answered-turned u ne (inl e) = inl (sym (turns.other u ne) ∙ e)
   answered-turned u ne (inr (inl e)) = inr (inl (sym (turns.other u ne) ∙ e))
   answered-turned u ne (inr (inr e)) = inr (inr e)
@@ -222,7 +222,7 @@ module _ (w : ℕ → ℕ) (ts : Tickets) (new : ℕ → Stage) (t : ℕ) (s : S
 
   -- ---- the work of the chip
 
-  plays-turned : (r : Role) (c : Counts) → ((u : ℕ) → worker r ≡ Some u → u ≢ t) → Plays r w ts c → Plays r w (staged ts new) c
+  pub plays-turned : (r : Role) (c : Counts) → ((u : ℕ) → worker r ≡ Some u → u ≢ t) → Plays r w ts c → Plays r w (staged ts new) c
   plays-turned Nothing c ne h = tt
   plays-turned (First u) c ne h = (h.0, h.1, waits-turned u (ne u refl) h.2)
   plays-turned (Asked u) c ne h = (asks-turned u (ne u refl) h.0, h.1)

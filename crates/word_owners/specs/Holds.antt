@@ -19,7 +19,7 @@ use Rattle.world_law.specs.declared.reply.Stop.{Stop}
 use Rattle.world_law.specs.declared.reply.Stop.TheVariants as stop
 use Rattle.world_law.specs.World.{World}
 use Rattle.world_law.specs.Stops.{job_done, in_tail}
-use Rattle.word_owners.specs.Tickets.{Tickets, tickets_of, AreTickets, block_of, target_of}
+use Rattle.word_owners.specs.Tickets.{Tickets, tickets_of, AreTickets, AreChecked, block_of, target_of}
 use Rattle.word_owners.specs.Pointers.{move_place}
 use Rattle.word_owners.specs.Points.{Point, Work, Free, Head, Begun, Moving, Link, OfTicket, OfTarget, Nobody, Anyone, about, At000}
 use Rattle.word_owners.specs.Parts.{Counts, Parts, TagTables}
@@ -138,6 +138,7 @@ pub record HoldsFor (version : ℕ) (units : List RigUnit) (s : Spot) (c : Count
   pub few_units : length units ≤ 16
   pub version_is : w.desk.version ≡ version
   pub tickets : AreTickets ts
+  pub checked : AreChecked w.desk
   pub put : w.desk.put ≡ start_slot c.queued
   pub take : w.desk.take ≡ done_slot c.taken
   pub parts : Parts version (word_at w.memory) ts c (closing_at s)

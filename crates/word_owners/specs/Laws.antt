@@ -1,22 +1,28 @@
 -- Laws of the invariant.
-use Rattle.std.specs.Prelude.{◌≡◌, ◌⊎◌, ◌<◌, ◌≤◌, ℕ, Bool, true, false, List, length}
+use Rattle.std.specs.Prelude.{◌≡◌, ◌⊎◌, ◌+◌, ◌<◌, ◌≤◌, ℕ, Bool, true, false, List, length, Option, Some, None}
 use Rattle.rig_types.specs.declared.rig.Unit.{Unit as RigUnit}
 use Rattle.host_map.specs.declared.TheConstants.{FRONT_IDLE}
+use Rattle.cmd_block.specs.declared.TheConstants.{ENDED, CUT}
 use Rattle.abort_reset.specs.Patches.{marked, job_at_front}
-use Rattle.desk_law.specs.declared.stage.Stage.TheVariants.{Built}
+use Rattle.desk_law.specs.declared.stage.Stage.TheVariants.{Built, Linked, Again, Check, Unlinked}
 use Rattle.desk_law.specs.Desk.{ticket, owed, paid}
-use Rattle.desk_law.specs.Calls.{links, link_memory, unlinks, unlink_memory, signalled}
+use Rattle.desk_law.specs.Rings.{done_ticket}
+use Rattle.desk_law.specs.Calls.{links, link_memory, unlinks, unlink_memory, queues, queue_memory, senses, sense_memory, signalled}
 use Rattle.world_law.specs.World.{BenchSetting, World, front}
 use Rattle.world_law.specs.Enabling.{IsEnded}
-use Rattle.world_law.specs.declared.reply.Stop.TheVariants.{Run, Clear, MustReset}
-use Rattle.world_law.specs.Stops.{to_sweep, in_tail}
+use Rattle.world_law.specs.declared.reply.Stop.TheVariants.{Run, Mismatch, Clear, MustReset}
+use Rattle.world_law.specs.ChipSteps.{RunsChip}
+use Rattle.world_law.specs.Stops.{to_sweep, in_tail, is_ended_by_script}
+use Rattle.world_law.specs.Steps.{taken as with_taken, FreesTicket}
+use Rattle.world_law.specs.declared.reply.Reply.{Reply}
+use Rattle.world_law.specs.Repairs.{Fixes}
 use Rattle.world_law.specs.Resets.{sweeps, resets, restarts}
 use Rattle.world_law.specs.Rooms.{with_room_at}
 use Rattle.world_law.specs.Acts.{is_late}
 use Rattle.world_law.specs.Opening.{opened}
-use Rattle.word_owners.specs.Points.{Point, about, At000, At090, At210}
+use Rattle.word_owners.specs.Points.{Point, about, At000, At070, At090, At0D0, At120, At140, At158, At1E0, At1E8, At1F0, At200, At208, At210, At220, At270, At290, At340, At3C8, At3D8, At458}
 use Rattle.word_owners.specs.Parts.{Counts}
-use Rattle.word_owners.specs.Holds.{Spot, Holds, Running, Fixed, TimedOut, ResetAt}
+use Rattle.word_owners.specs.Holds.{Spot, Holds, Running, Mismatched, Fixed, TimedOut, ResetAt, Broken}
 
 -- nothing was queued or taken
 abbrev pub no_counts : Counts
@@ -80,3 +86,52 @@ RestartHolds = (version : ℕ) (units : List RigUnit) (s : Spot) (c : Counts) (w
 abbrev pub JobHolds : Type 0
 JobHolds = (version : ℕ) (units : List RigUnit) (s : Spot) (c : Counts) (w : World) (caller target : ℕ) → front w ≡ FRONT_IDLE → target < 256 → Holds version units s c w
     → Holds version units s c (record w { memory = job_at_front w.memory target; desk = owed w.desk caller; bus = with_room_at w.bus target })
+
+-- Queue puts a Linked ticket, or one that is to be queued again, into the start ring
+abbrev pub QueueHolds : Type 0
+QueueHolds = (version : ℕ) (units : List RigUnit) (s : Spot) (c : Counts) (w : World) (t : ℕ) → Holds version units s c w → ((ticket w.desk t).stage ≡ Linked) ⊎ ((ticket w.desk t).stage ≡ Again)
+    → Holds version units s (record c { queued = c.queued + 1 }) (record w { memory = queue_memory w.desk t w.memory; desk = queues w.desk t })
+
+-- TakeDone of the ticket in the done slot, which the script has ended
+abbrev pub TakeHolds : Type 0
+TakeHolds = (version : ℕ) (units : List RigUnit) (s : Spot) (c : Counts) (w : World) (t : ℕ) → done_ticket w.memory w.desk ≡ Some t → is_ended_by_script w (ticket w.desk t) ≡ true → Holds version units s c w
+    → Holds version units s (record c { taken = c.taken + 1 }) (with_taken w t)
+
+-- Fix repairs a data move that was broken off, and asks for a reset exactly where another instruction was
+abbrev pub fix_spot : Spot → Spot
+fix_spot (Mismatched t x left) = Fixed t
+fix_spot s = Broken
+
+abbrev pub FixHolds : Type 0
+FixHolds = (version : ℕ) (units : List RigUnit) (s : Spot) (c : Counts) (w new : World) → w.stop ≡ Mismatch → Fixes w new → Holds version units s c w → Holds version units (fix_spot s) c new
+
+-- Free of an Unlinked ticket
+abbrev pub FreeHolds : Type 0
+FreeHolds = (version : ℕ) (units : List RigUnit) (s : Spot) (c : Counts) (w new : World) (t : ℕ) (answer : Reply) → (ticket w.desk t).stage ≡ Unlinked → FreesTicket w t answer new → Holds version units s c w → Holds version units s c new
+
+-- Sense turns the block of a ticket in Check into a REQUEST SENSE and puts it at FRONT, where that is idle
+abbrev pub SenseHolds : Type 0
+SenseHolds = (version : ℕ) (units : List RigUnit) (s : Spot) (c : Counts) (w : World) (t : ℕ) → w.stop ≡ Run → (ticket w.desk t).stage ≡ Check → front w ≡ FRONT_IDLE → Holds version units s c w
+    → Holds version units s c (record w { memory = sense_memory w.desk t w.memory; desk = senses w.desk t })
+
+-- ---- steps of the chip
+
+-- where the jumps of the script lead that always hold, from DISPATCH's routines, the tail and the data moves
+abbrev pub jump_point : Point → Option Point
+jump_point (At0D0 t) = Some (At090 t)
+jump_point (At120 t) = Some (At090 t)
+jump_point (At140 t) = Some (At090 t)
+jump_point At158 = Some At000
+jump_point (At1E0 t) = Some (At220 t ENDED)
+jump_point (At1F0 t) = Some (At200 t)
+jump_point (At208 t) = Some (At220 t CUT)
+jump_point At270 = Some At000
+jump_point (At290 t) = Some (At1E8 t)
+jump_point (At340 t) = Some (At3C8 t)
+jump_point (At3D8 t) = Some (At090 t)
+jump_point (At458 t) = Some (At070 t)
+jump_point _ = None
+
+abbrev pub JumpsHold : Type 0
+JumpsHold = (version : ℕ) (units : List RigUnit) (p q : Point) (c : Counts) (w new : World) (word : ℕ) (answer : Reply) → jump_point p ≡ Some q → RunsChip w word answer new → Holds version units (Running p) c w
+    → Holds version units (Running q) c new

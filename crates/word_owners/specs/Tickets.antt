@@ -97,3 +97,10 @@ pub record AreTickets (ts : Tickets) : Type 0 where
   pub within : (t i : ℕ) → IsLive (ts.stage t) → i < length (ts.fixed t).own → (0x200000 ≤ slice_index (ts.fixed t).own i) × (slice_index (ts.fixed t).own i < 0x400000)
   pub apart : (t u i j : ℕ) → IsLive (ts.stage t) → IsLive (ts.stage u) → t ≢ u → i < length (ts.fixed t).own → j < length (ts.fixed u).own
       → slice_index (ts.fixed t).own i ≢ slice_index (ts.fixed u).own j
+
+-- a ticket whose sense is to be asked for, or is asked for, is marked as checked
+abbrev pub IsAskedFor : Stage → Type 0
+IsAskedFor s = (s ≡ Check) ⊎ (s ≡ Sensing)
+
+abbrev pub AreChecked : DeskState → Type 0
+AreChecked d = (t : ℕ) → IsAskedFor (ticket d t).stage → (ticket d t).checked ≡ true

@@ -1,6 +1,6 @@
 //! Laws of the invariant. Each function does nothing; its contract is the law.
 
-ghost use Rattle.word_owners.specs.Laws.{HoldsOpened, JobHolds, LinkHolds, MarkHolds, ResetHolds, RestartHolds, SignalHolds, SweepHolds, UnlinkHolds};
+ghost use Rattle.word_owners.specs.Laws.{FixHolds, FreeHolds, HoldsOpened, JobHolds, JumpsHold, LinkHolds, MarkHolds, QueueHolds, ResetHolds, RestartHolds, SenseHolds, SignalHolds, SweepHolds, TakeHolds, UnlinkHolds};
 
 /// The invariant holds at the opening of a bench of at most 16 units: the chip stands at START, both rings are empty and
 /// there is no ticket.
@@ -41,4 +41,39 @@ pub fn restarts_hold()
 /// doesn't go on with it.
 pub fn sweeps_hold()
     ensures { SweepHolds }
+{}
+
+/// Queue of a Linked ticket, or of one that is to be queued again, keeps the invariant, wherever the chip is or stands in
+/// a stop: the ticket is the last one of the start ring.
+pub fn queues_hold()
+    ensures { QueueHolds }
+{}
+
+/// TakeDone of the ticket in the done slot, which the script has ended, keeps the invariant, wherever the chip is or
+/// stands in a stop: the slot is idle again, and no other ticket was in it.
+pub fn takes_hold()
+    ensures { TakeHolds }
+{}
+
+/// Fix keeps the invariant: where a data move was broken off, it is repaired and the chip stands ready to go on at
+/// DISPATCH; where another instruction was, the bus is to be reset.
+pub fn fixes_hold()
+    ensures { FixHolds }
+{}
+
+/// Free of an Unlinked ticket keeps the invariant, wherever the chip is or stands in a stop.
+pub fn frees_hold()
+    ensures { FreeHolds }
+{}
+
+/// Sense of a ticket in Check keeps the invariant, while the chip runs and FRONT is idle: its block is a REQUEST SENSE
+/// whose data pointers denote its sense area, and FRONT has it.
+pub fn senses_hold()
+    ensures { SenseHolds }
+{}
+
+/// At twelve jumps of the script that always hold a step of the chip keeps the invariant: those back to DISPATCH and
+/// START, those of the tail, and those behind the data moves.
+pub fn jumps_hold()
+    ensures { JumpsHold }
 {}

@@ -1,0 +1,95 @@
+-- The jumps of the script that always hold keep the invariant, over any state of the bus.
+use Rattle.std.proofs.Common.{◌≡◌, ℕ, ◌+◌, ◌*◌, ◌<◌, List, refl, sym, ap, subst, ◌∙◌, arith, Option, Some}
+use Rattle.bench_words.specs.Memory.{word_at}
+use Rattle.rig_types.specs.declared.rig.Unit.{Unit as RigUnit}
+use Rattle.scripts_ops.specs.declared.values.Condition.TheVariants.{Always}
+use Rattle.scripts_ops.specs.declared.values.Op.TheVariants.{Jump}
+use Rattle.driver_script.specs.Script.{instruction}
+use Rattle.chip_regs.specs.declared.registers.Regs.{Regs}
+use Rattle.chip_step.specs.Chip.{Becomes}
+use Rattle.chip_step.specs.Step.{after_fetch}
+use Rattle.chip_step.specs.declared.outcome.StepEnd.{StepEnd}
+use Rattle.bus_law.specs.Bus.{BusState}
+use Rattle.bus_law.specs.Moves.{moves}
+use Rattle.ownership.specs.Standing.{StandsAt}
+use Rattle.ownership.proofs.Transfers.{jumps_to}
+use Rattle.world_law.specs.declared.reply.Reply.{Reply}
+use Rattle.world_law.specs.World.{World, live}
+use Rattle.world_law.specs.ChipSteps.{chip_of, after_chip, RunsChip}
+use Rattle.word_owners.specs.Tickets.{Tickets, tickets_of}
+use Rattle.word_owners.specs.Points.{Begun, Ending, Point, about, At000, At0D0, At090, At120, At140, At158, At1E0, At1F0, At200, At208, At220, At270, At290, At1E8, At340, At3C8, At3D8, At458, At070, Link, OfTicket, OfTarget, Nobody, Anyone}
+use Rattle.word_owners.specs.Parts.{Counts, Parts}
+use Rattle.word_owners.specs.Works.{Works}
+use Rattle.word_owners.specs.Holds.{Holds, Running, AtPoint, Linked}
+use Rattle.word_owners.specs.Laws.{JumpsHold}
+
+-- a step that goes on with these registers, and leaves memory and bus
+went : (w new : World) (word : ℕ) (answer : Reply) (s : RunsChip w word answer new) (r : Regs) → Becomes r (after_fetch (chip_of w)) s.end s.chip → new ≡ record w { regs = r }
+went w new word answer s r b =
+    s.world
+    ∙ ap (λ (e : StepEnd). after_chip w e s.chip) b.ends.is
+    ∙ ap (λ (m : List ℕ). record w { memory = m; regs = s.chip.regs; bus = s.chip.bus }) b.ends.memory_is
+    ∙ ap (λ (x : Regs). record w { regs = x; bus = s.chip.bus }) b.ends.regs_are
+    ∙ ap (λ (x : BusState). record w { regs = r; bus = x }) b.bus_is
+
+linked-fetched : (l : Link) (ts : Tickets) (w : World) (a : ℕ) → Linked l ts w.bus w.regs → Linked l ts w.bus (record (after_fetch (chip_of w)).regs { dsp = a })
+linked-fetched (OfTicket t) ts w a h = h
+linked-fetched (OfTarget i) ts w a h = h
+linked-fetched Nobody ts w a h = h
+linked-fetched Anyone ts w a h = h
+
+-- what stands at two points alike
+record Alike (p q : Point) : Type 0 where
+  closing : (about p).closing ≡ (about q).closing
+  ahead : (about p).ahead ≡ (about q).ahead
+  works : (w : ℕ → ℕ) (ts : Tickets) (c : Counts) → Works (about p).work w ts c → Works (about q).work w ts c
+  at : (ts : Tickets) (c : Counts) (r : Regs) → AtPoint p ts c r → AtPoint q ts c r
+  linked : (ts : Tickets) (b : BusState) (r : Regs) → Linked (about p).link ts b r → Linked (about q).link ts b r
+
+module _ (version : ℕ) (units : List RigUnit) (p q : Point) (c : Counts) (w new : World) (word : ℕ) (answer : Reply) (k a : ℕ) where
+  jumped : k < 151 → (about p).place ≡ 8 * k → instruction k version ≡ Jump Always a → (about q).place ≡ a → Alike p q → RunsChip w word answer new → Holds version units (Running p) c w → Holds version units (Running q) c new
+  jumped inside place here to alike s h =
+      let stands : StandsAt version k (chip_of w) = record { size = h.size; loaded = h.parts.loaded; running = h.stays.2; dsp = h.stays.3 ∙ place; inside = inside } in
+      let b = jumps_to (moves w.desk.units (live w.desk)) a (chip_of w) s.end s.chip (record { version = version; k = k; word = word; stands = stands; here = here; ran = s.ran }) in
+      let r : Regs = record (after_fetch (chip_of w)).regs { dsp = a } in
+      let x = alike.at (tickets_of w.desk) c w.regs h.stays.4 in
+      subst (Holds version units (Running q) c) (sym (went w new word answer s r b)) (record {
+        size = h.size;
+        bytes = h.bytes;
+        units_are = h.units_are;
+        few_units = h.few_units;
+        version_is = h.version_is;
+        tickets = h.tickets;
+        checked = h.checked;
+        put = h.put;
+        take = h.take;
+        parts = subst (λ (o : Option ℕ). Parts version (word_at w.memory) (tickets_of w.desk) c o) alike.closing h.parts;
+        tags = h.tags;
+        donep = record { before = h.donep.before; entered = subst (λ (i : ℕ). c.entered ≡ h.donep.before + i) alike.ahead h.donep.entered; is = h.donep.is };
+        works = alike.works (word_at w.memory) (tickets_of w.desk) c h.works;
+        stays = (h.stays.0, h.stays.1, h.stays.2, sym to, record { dsa = x.dsa; temp = x.temp; scratcha = x.scratcha; scratchb = x.scratchb; ssid = x.ssid; sfbr = x.sfbr });
+        linked = linked-fetched (about q).link (tickets_of w.desk) w a (alike.linked (tickets_of w.desk) w.bus w.regs h.linked);
+      })
+
+ends-work : (t : ℕ) (w : ℕ → ℕ) (ts : Tickets) (c : Counts) → Works (Begun t) w ts c → Works (Ending t 1) w ts c
+ends-work t w ts c h = record { plays = (h.plays.begun, h.plays.out); extra = (omega arith, omega arith, λ e. h.plays.there) }
+
+-- where a jump leads is the point that it names
+jump-to : (version : ℕ) (units : List RigUnit) (p x q : Point) (c : Counts) (new : World) → Some x ≡ Some q → Holds version units (Running x) c new → Holds version units (Running q) c new
+jump-to version units p x q c new e h = let z : x ≡ q = cc in subst (λ (i : Point). Holds version units (Running i) c new) z h
+
+pub jumps_hold : JumpsHold
+unfolding instruction
+jumps_hold version units (At0D0 t) q c w new word answer e s h = jump-to version units (At0D0 t) (At090 t) q c new e (jumped version units (At0D0 t) (At090 t) c w new word answer 26 0x90 (omega arith) refl refl refl (record { closing = refl; ahead = refl; works = λ v ts d x. x; at = λ ts d r x. x; linked = λ ts b r x. x }) s h)
+jumps_hold version units (At120 t) q c w new word answer e s h = jump-to version units (At120 t) (At090 t) q c new e (jumped version units (At120 t) (At090 t) c w new word answer 36 0x90 (omega arith) refl refl refl (record { closing = refl; ahead = refl; works = λ v ts d x. x; at = λ ts d r x. x; linked = λ ts b r x. x }) s h)
+jumps_hold version units (At140 t) q c w new word answer e s h = jump-to version units (At140 t) (At090 t) q c new e (jumped version units (At140 t) (At090 t) c w new word answer 40 0x90 (omega arith) refl refl refl (record { closing = refl; ahead = refl; works = λ v ts d x. x; at = λ ts d r x. x; linked = λ ts b r x. x }) s h)
+jumps_hold version units At158 q c w new word answer e s h = jump-to version units At158 At000 q c new e (jumped version units At158 At000 c w new word answer 43 0 (omega arith) refl refl refl (record { closing = refl; ahead = refl; works = λ v ts d x. x; at = λ ts d r x. x; linked = λ ts b r x. x }) s h)
+jumps_hold version units (At1E0 t) q c w new word answer e s h = jump-to version units (At1E0 t) (At220 t 1) q c new e (jumped version units (At1E0 t) (At220 t 1) c w new word answer 60 0x220 (omega arith) refl refl refl (record { closing = refl; ahead = refl; works = ends-work t; at = λ ts d r x. x; linked = λ ts b r x. x }) s h)
+jumps_hold version units (At1F0 t) q c w new word answer e s h = jump-to version units (At1F0 t) (At200 t) q c new e (jumped version units (At1F0 t) (At200 t) c w new word answer 62 0x200 (omega arith) refl refl refl (record { closing = refl; ahead = refl; works = λ v ts d x. x; at = λ ts d r x. x; linked = λ ts b r x. x }) s h)
+jumps_hold version units (At208 t) q c w new word answer e s h = jump-to version units (At208 t) (At220 t 2) q c new e (jumped version units (At208 t) (At220 t 2) c w new word answer 65 0x220 (omega arith) refl refl refl (record { closing = refl; ahead = refl; works = λ v ts d x. x; at = λ ts d r x. x; linked = λ ts b r x. x }) s h)
+jumps_hold version units At270 q c w new word answer e s h = jump-to version units At270 At000 q c new e (jumped version units At270 At000 c w new word answer 78 0 (omega arith) refl refl refl (record { closing = refl; ahead = refl; works = λ v ts d x. x; at = λ ts d r x. x; linked = λ ts b r x. x }) s h)
+jumps_hold version units (At290 t) q c w new word answer e s h = jump-to version units (At290 t) (At1E8 t) q c new e (jumped version units (At290 t) (At1E8 t) c w new word answer 82 0x1E8 (omega arith) refl refl refl (record { closing = refl; ahead = refl; works = λ v ts d x. x; at = λ ts d r x. x; linked = λ ts b r x. x }) s h)
+jumps_hold version units (At340 t) q c w new word answer e s h = jump-to version units (At340 t) (At3C8 t) q c new e (jumped version units (At340 t) (At3C8 t) c w new word answer 104 0x3C8 (omega arith) refl refl refl (record { closing = refl; ahead = refl; works = λ v ts d x. x; at = λ ts d r x. x; linked = λ ts b r x. x }) s h)
+jumps_hold version units (At3D8 t) q c w new word answer e s h = jump-to version units (At3D8 t) (At090 t) q c new e (jumped version units (At3D8 t) (At090 t) c w new word answer 123 0x90 (omega arith) refl refl refl (record { closing = refl; ahead = refl; works = λ v ts d x. x; at = λ ts d r x. x; linked = λ ts b r x. x }) s h)
+jumps_hold version units (At458 t) q c w new word answer e s h = jump-to version units (At458 t) (At070 t) q c new e (jumped version units (At458 t) (At070 t) c w new word answer 139 0x70 (omega arith) refl refl refl (record { closing = refl; ahead = refl; works = λ v ts d x. x; at = λ ts d r x. x; linked = λ ts b r x. x }) s h)
+jumps_hold version units _ q c w new word answer e s h = absurd cc

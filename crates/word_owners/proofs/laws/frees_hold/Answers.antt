@@ -1,0 +1,5 @@
+use Rattle.word_owners.proofs.Freeing.{free_holds}
+use Rattle.word_owners.proofs.laws.frees_hold.Goals as goal
+
+pub returns : goal.returns
+returns c = free_holds

@@ -1,0 +1,5 @@
+use Rattle.word_owners.proofs.Queueing.{queue_holds}
+use Rattle.word_owners.proofs.laws.queues_hold.Goals as goal
+
+pub returns : goal.returns
+returns c = queue_holds

@@ -1,0 +1,5 @@
+use Rattle.word_owners.proofs.Sensing.{sense_holds}
+use Rattle.word_owners.proofs.laws.senses_hold.Goals as goal
+
+pub returns : goal.returns
+returns c = sense_holds

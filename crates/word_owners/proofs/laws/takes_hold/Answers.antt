@@ -1,0 +1,5 @@
+use Rattle.word_owners.proofs.Taking.{take_holds}
+use Rattle.word_owners.proofs.laws.takes_hold.Goals as goal
+
+pub returns : goal.returns
+returns c = take_holds
