@@ -3,14 +3,14 @@
 /// The status that ends a command.
 #[derive(Clone, Copy, Debug, PartialEq, Eq)]
 pub enum Status {
-    /// GOOD, 00.
+    /// GOOD, 0x00.
     Good,
-    /// CHECK CONDITION, 02.
+    /// CHECK CONDITION, 0x02.
     Check,
-    /// BUSY, 08.
+    /// BUSY, 0x08.
     Busy,
-    /// RESERVATION CONFLICT, 18.
+    /// RESERVATION CONFLICT, 0x18.
     Conflict,
-    /// QUEUE FULL, 28.
+    /// QUEUE FULL, 0x28.
     QueueFull,
 }
