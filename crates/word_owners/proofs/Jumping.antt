@@ -24,7 +24,7 @@ use Rattle.word_owners.specs.Holds.{Holds, Running, AtPoint, Linked}
 use Rattle.word_owners.specs.Laws.{JumpsHold}
 
 -- a step that goes on with these registers, and leaves memory and bus
-went : (w new : World) (word : ℕ) (answer : Reply) (s : RunsChip w word answer new) (r : Regs) → Becomes r (after_fetch (chip_of w)) s.end s.chip → new ≡ record w { regs = r }
+pub went : (w new : World) (word : ℕ) (answer : Reply) (s : RunsChip w word answer new) (r : Regs) → Becomes r (after_fetch (chip_of w)) s.end s.chip → new ≡ record w { regs = r }
 went w new word answer s r b =
     s.world
     ∙ ap (λ (e : StepEnd). after_chip w e s.chip) b.ends.is
@@ -75,7 +75,7 @@ ends-work : (t : ℕ) (w : ℕ → ℕ) (ts : Tickets) (c : Counts) → Works (B
 ends-work t w ts c h = record { plays = (h.plays.begun, h.plays.out); extra = (omega arith, omega arith, λ e. h.plays.there) }
 
 -- where a jump leads is the point that it names
-jump-to : (version : ℕ) (units : List RigUnit) (p x q : Point) (c : Counts) (new : World) → Some x ≡ Some q → Holds version units (Running x) c new → Holds version units (Running q) c new
+pub jump-to : (version : ℕ) (units : List RigUnit) (p x q : Point) (c : Counts) (new : World) → Some x ≡ Some q → Holds version units (Running x) c new → Holds version units (Running q) c new
 jump-to version units p x q c new e h = let z : x ≡ q = cc in subst (λ (i : Point). Holds version units (Running i) c new) z h
 
 pub jumps_hold : JumpsHold

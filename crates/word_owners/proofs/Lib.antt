@@ -18,3 +18,4 @@ pub mod Fixing
 pub mod Freeing
 pub mod Sensing
 pub mod Jumping
+pub mod Loading

@@ -2,7 +2,7 @@
 use Rattle.std.specs.Prelude.{◌≡◌, ◌⊎◌, ◌+◌, ◌<◌, ◌≤◌, ℕ, Bool, true, false, List, length, Option, Some, None}
 use Rattle.rig_types.specs.declared.rig.Unit.{Unit as RigUnit}
 use Rattle.host_map.specs.declared.TheConstants.{FRONT_IDLE}
-use Rattle.cmd_block.specs.declared.TheConstants.{ENDED, CUT}
+use Rattle.cmd_block.specs.declared.TheConstants.{ENDED, CUT, NO_TARGET}
 use Rattle.abort_reset.specs.Patches.{marked, job_at_front}
 use Rattle.desk_law.specs.declared.stage.Stage.TheVariants.{Built, Linked, Again, Check, Unlinked}
 use Rattle.desk_law.specs.Desk.{ticket, owed, paid}
@@ -20,7 +20,7 @@ use Rattle.world_law.specs.Resets.{sweeps, resets, restarts}
 use Rattle.world_law.specs.Rooms.{with_room_at}
 use Rattle.world_law.specs.Acts.{is_late}
 use Rattle.world_law.specs.Opening.{opened}
-use Rattle.word_owners.specs.Points.{Point, about, At000, At070, At090, At0D0, At120, At140, At158, At1E0, At1E8, At1F0, At200, At208, At210, At220, At270, At290, At340, At3C8, At3D8, At458}
+use Rattle.word_owners.specs.Points.{Point, about, At000, At020, At028, At070, At078, At090, At0D0, At120, At140, At158, At1D8, At1E0, At1E8, At1F0, At200, At208, At210, At218, At220, At228, At230, At240, At248, At250, At270, At290, At340, At3C8, At3D0, At3D8, At448, At450, At458}
 use Rattle.word_owners.specs.Parts.{Counts}
 use Rattle.word_owners.specs.Holds.{Spot, Holds, Running, Mismatched, Fixed, TimedOut, ResetAt, Broken}
 
@@ -134,4 +134,22 @@ jump_point _ = None
 
 abbrev pub JumpsHold : Type 0
 JumpsHold = (version : ℕ) (units : List RigUnit) (p q : Point) (c : Counts) (w new : World) (word : ℕ) (answer : Reply) → jump_point p ≡ Some q → RunsChip w word answer new → Holds version units (Running p) c w
+    → Holds version units (Running q) c new
+
+-- where the LOADs of the script lead that have their word at an address of their own, but the one of FRONT
+abbrev pub load_point : Point → Option Point
+load_point At020 = Some At028
+load_point (At070 t) = Some (At078 t)
+load_point (At1D8 t) = Some (At1E0 t)
+load_point (At200 t) = Some (At208 t)
+load_point (At218 t) = Some (At220 t NO_TARGET)
+load_point (At228 t) = Some (At230 t)
+load_point (At240 t) = Some (At248 t)
+load_point (At248 t) = Some (At250 t)
+load_point (At3C8 t) = Some (At3D0 t)
+load_point (At448 t) = Some (At450 t)
+load_point _ = None
+
+abbrev pub LoadsHold : Type 0
+LoadsHold = (version : ℕ) (units : List RigUnit) (p q : Point) (c : Counts) (w new : World) (word : ℕ) (answer : Reply) → load_point p ≡ Some q → RunsChip w word answer new → Holds version units (Running p) c w
     → Holds version units (Running q) c new

@@ -1,6 +1,6 @@
 //! Laws of the invariant. Each function does nothing; its contract is the law.
 
-ghost use Rattle.word_owners.specs.Laws.{FixHolds, FreeHolds, HoldsOpened, JobHolds, JumpsHold, LinkHolds, MarkHolds, QueueHolds, ResetHolds, RestartHolds, SenseHolds, SignalHolds, SweepHolds, TakeHolds, UnlinkHolds};
+ghost use Rattle.word_owners.specs.Laws.{FixHolds, FreeHolds, HoldsOpened, JobHolds, JumpsHold, LinkHolds, LoadsHold, MarkHolds, QueueHolds, ResetHolds, RestartHolds, SenseHolds, SignalHolds, SweepHolds, TakeHolds, UnlinkHolds};
 
 /// The invariant holds at the opening of a bench of at most 16 units: the chip stands at START, both rings are empty and
 /// there is no ticket.
@@ -76,4 +76,10 @@ pub fn senses_hold()
 /// START, those of the tail, and those behind the data moves.
 pub fn jumps_hold()
     ensures { JumpsHold }
+{}
+
+/// At ten LOADs of the script that have their word at an address of their own a step of the chip keeps the invariant:
+/// the register has the next start slot, the next done slot, the ticket's block or the constant that stands there.
+pub fn loads_hold()
+    ensures { LoadsHold }
 {}

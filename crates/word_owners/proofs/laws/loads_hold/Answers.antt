@@ -1,0 +1,5 @@
+use Rattle.word_owners.proofs.Loading.{loads_hold}
+use Rattle.word_owners.proofs.laws.loads_hold.Goals as goal
+
+pub returns : goal.returns
+returns c = loads_hold
