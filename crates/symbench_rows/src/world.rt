@@ -58,7 +58,12 @@ pub fn run_over<F: Shelf>(
 }
 
 /// Runs a command of these words over an empty shelf.
-pub fn run(alloc: Global, words: &[&str], out: Sinking, err: Sinking) -> Result<Ending, AllocError> {
+pub fn run(
+    alloc: Global,
+    words: &[&str],
+    out: Sinking,
+    err: Sinking,
+) -> Result<Ending, AllocError> {
     let mut shelf = QuietShelf::new(Files::of(Vec::new(alloc)));
     run_over(alloc, words, &mut shelf, out, err)
 }

@@ -321,11 +321,10 @@ accept-matched old l new there next d h =
             (omega (arith, b, many), ap (λ (xs : List Ticket). (at xs t).line) d.tickets ∙ ap (λ (k : Ticket). k.line) (before-end ks d.made t b) ∙ (h.of_line x t was).1)
         | inr n ↦
             let c : line.Accepted (length ks) ≡ line.Accepted t = sym n.2 ∙ ap (λ (xss : List (List Decided)). decided_in xss x) (sym d.lines) ∙ e in
-            let same-number : length ks ≡ t = cc in
-            (
+            let same-number : length ks ≡ t = cc in (
               omega (arith, same-number, many),
               ap (λ (xs : List Ticket). (at xs t).line) d.tickets ∙ ap (λ (k : ℕ). (at (ks ++ d.made ∷ []) k).line) (sym same-number) ∙ ap (λ (k : Ticket). k.line) (at-end ks d.made) ∙ d.own
-              ∙ sym (same-line x l n.0 (n.1 ∙ sym next)),
+                  ∙ sym (same-line x l n.0 (n.1 ∙ sym next)),
             )
       ];
       of_ticket = λ t b. elim (last-or-before t (length ks) (omega (arith, b, many))) [

@@ -154,6 +154,7 @@ runs_on g ms m r h = by (is_recorded g m.entry.step m.reply) refl
   where
     n : IsNoted g (last (opened g) ms) m
     n = noted g (length ms) (last (opened g) ms) m h
+
     by : (b : Bool) → is_recorded g m.entry.step m.reply ≡ b → RunsOn g ms m
     by true e = record {
       run = rw e (goes_on g (opened g) ms m r (n.steps e));
