@@ -32,7 +32,7 @@ went w new word answer s r b =
     ∙ ap (λ (x : Regs). record w { regs = x; bus = s.chip.bus }) b.ends.regs_are
     ∙ ap (λ (x : BusState). record w { regs = r; bus = x }) b.bus_is
 
-linked-fetched : (l : Link) (ts : Tickets) (w : World) (a : ℕ) → Linked l ts w.bus w.regs → Linked l ts w.bus (record (after_fetch (chip_of w)).regs { dsp = a })
+pub linked-fetched : (l : Link) (ts : Tickets) (w : World) (a : ℕ) → Linked l ts w.bus w.regs → Linked l ts w.bus (record (after_fetch (chip_of w)).regs { dsp = a })
 linked-fetched (OfTicket t) ts w a h = h
 linked-fetched (OfTarget i) ts w a h = h
 linked-fetched Nobody ts w a h = h

@@ -19,3 +19,4 @@ pub mod Freeing
 pub mod Sensing
 pub mod Jumping
 pub mod Loading
+pub mod Returning

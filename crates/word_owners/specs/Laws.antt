@@ -20,7 +20,7 @@ use Rattle.world_law.specs.Resets.{sweeps, resets, restarts}
 use Rattle.world_law.specs.Rooms.{with_room_at}
 use Rattle.world_law.specs.Acts.{is_late}
 use Rattle.world_law.specs.Opening.{opened}
-use Rattle.word_owners.specs.Points.{Point, about, At000, At020, At028, At070, At078, At090, At0D0, At120, At140, At158, At1D8, At1E0, At1E8, At1F0, At200, At208, At210, At218, At220, At228, At230, At240, At248, At250, At270, At290, At340, At3C8, At3D0, At3D8, At448, At450, At458}
+use Rattle.word_owners.specs.Points.{Point, about, At000, At020, At028, At070, At078, At090, At0D0, At120, At140, At158, At1D8, At1E0, At1E8, At1F0, At200, At208, At210, At218, At220, At228, At230, At240, At248, At250, At270, At290, At340, At3C8, At3D0, At3D8, At448, At450, At458, At018Idle, At018Job, At018Sense, At040Idle, At048, At1A8, At1A8Bad, At1A8None, At1B0, At1B0None, At1B8None, At1C0, At298, At440}
 use Rattle.word_owners.specs.Parts.{Counts}
 use Rattle.word_owners.specs.Holds.{Spot, Holds, Running, Mismatched, Fixed, TimedOut, ResetAt, Broken}
 
@@ -152,4 +152,20 @@ load_point _ = None
 
 abbrev pub LoadsHold : Type 0
 LoadsHold = (version : ℕ) (units : List RigUnit) (p q : Point) (c : Counts) (w new : World) (word : ℕ) (answer : Reply) → load_point p ≡ Some q → RunsChip w word answer new → Holds version units (Running p) c w
+    → Holds version units (Running q) c new
+
+-- where the RETURNs lead by which the blocks at FRONT, an idle slot and the gates of candidates are entered
+abbrev pub return_point : Point → Option Point
+return_point At018Idle = Some At020
+return_point At018Job = Some At298
+return_point (At018Sense t) = Some (At440 t)
+return_point At040Idle = Some At048
+return_point (At1A8 t) = Some (At1B0 t)
+return_point At1A8Bad = Some At1C0
+return_point At1A8None = Some At1B0None
+return_point At1B8None = Some At1C0
+return_point _ = None
+
+abbrev pub ReturnsHold : Type 0
+ReturnsHold = (version : ℕ) (units : List RigUnit) (p q : Point) (c : Counts) (w new : World) (word : ℕ) (answer : Reply) → return_point p ≡ Some q → RunsChip w word answer new → Holds version units (Running p) c w
     → Holds version units (Running q) c new

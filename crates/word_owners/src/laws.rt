@@ -1,6 +1,6 @@
 //! Laws of the invariant. Each function does nothing; its contract is the law.
 
-ghost use Rattle.word_owners.specs.Laws.{FixHolds, FreeHolds, HoldsOpened, JobHolds, JumpsHold, LinkHolds, LoadsHold, MarkHolds, QueueHolds, ResetHolds, RestartHolds, SenseHolds, SignalHolds, SweepHolds, TakeHolds, UnlinkHolds};
+ghost use Rattle.word_owners.specs.Laws.{FixHolds, FreeHolds, HoldsOpened, JobHolds, JumpsHold, LinkHolds, LoadsHold, MarkHolds, QueueHolds, ResetHolds, RestartHolds, ReturnsHold, SenseHolds, SignalHolds, SweepHolds, TakeHolds, UnlinkHolds};
 
 /// The invariant holds at the opening of a bench of at most 16 units: the chip stands at START, both rings are empty and
 /// there is no ticket.
@@ -82,4 +82,10 @@ pub fn jumps_hold()
 /// the register has the next start slot, the next done slot, the ticket's block or the constant that stands there.
 pub fn loads_hold()
     ensures { LoadsHold }
+{}
+
+/// At eight RETURNs of the script a step of the chip keeps the invariant: those that enter the block at FRONT, an idle
+/// slot, and the gate of the ticket that has reselected.
+pub fn returns_hold()
+    ensures { ReturnsHold }
 {}

@@ -5,5 +5,6 @@ mod laws;
 
 pub use laws::{
     aborts_hold, device_resets_hold, fixes_hold, frees_hold, jumps_hold, links_hold, loads_hold,
-    opening_holds, queues_hold, resets_hold, restarts_hold, senses_hold, sweeps_hold, takes_hold,
+    opening_holds, queues_hold, resets_hold, restarts_hold, returns_hold, senses_hold, sweeps_hold,
+    takes_hold,
 };

@@ -1,0 +1,5 @@
+use Rattle.word_owners.proofs.Returning.{returns_hold}
+use Rattle.word_owners.proofs.laws.returns_hold.Goals as goal
+
+pub returns : goal.returns
+returns c = returns_hold
