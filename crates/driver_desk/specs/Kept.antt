@@ -1,12 +1,17 @@
 -- What is true of the desk's own fields at all times (own).
-use Rattle.std.specs.Prelude.{◌≡◌, ℕ, ◌+◌, ◌*◌, ◌<◌, ◌≤◌, List, length, All, Option, None, position, slice_index_or}
+use Rattle.std.specs.Prelude.{◌≡◌, ℕ, ◌+◌, ◌*◌, ◌<◌, ◌≤◌, List, length, All, Option, None, position, slice_index_or, sum_by}
 use Rattle.host_map.specs.declared.TheConstants.{START_RING, DONE_RING}
 use Rattle.host_map.specs.Places.{IsCommandBlock, block_at}
 use Rattle.job_rings.specs.Rings.{IsSlot}
 use Rattle.desk_law.specs.declared.stage.Stage.{Stage}
 use Rattle.desk_law.specs.declared.stage.Stage.TheVariants.{Built, Linked, Again}
+use Rattle.desk_law.specs.declared.ticket.Piece.{Piece}
 use Rattle.desk_law.specs.declared.ticket.Ticket.{Ticket}
 use Rattle.desk_law.specs.Desk.{has_tag, has_block}
+
+-- the length of a buffer in these pieces
+abbrev pub total : List Piece → ℕ
+total ps = sum_by (λ (p : Piece). p.len) ps
 
 -- how often a ticket in a stage was queued at most
 abbrev pub most_tries : (retries : ℕ) → Stage → ℕ

@@ -1,12 +1,12 @@
 //! The desk.
 
-ghost use Rattle.std.specs.Prelude.{◌≡◌, ◌<◌, ◌+◌, ◌^◌, ◌==◌, ℕ, length, true, false, IsSome};
+ghost use Rattle.std.specs.Prelude.{◌≡◌, ◌<◌, ◌+◌, ◌^◌, ◌==◌, ℕ, length, true, false, None, replicate, IfOk, IsSome};
 ghost use Rattle.std.specs.List.{list_any};
 ghost use Rattle.bench_words.specs.Memory.{word_at};
 ghost use Rattle.host_map.specs.declared.TheConstants.{RINGP, START_RING, DONE_RING};
 ghost use Rattle.host_map.specs.Places.{IsCommandBlock};
 ghost use Rattle.job_rings.specs.Rings.{IsSlot, next_slot};
-ghost use Rattle.desk_law.specs.Desk.{ticket, with_ticket, lives, is_rogue, reaper, due, paid, owed, ticket_of, ticket_at};
+ghost use Rattle.desk_law.specs.Desk.{desk_opened, ticket, with_ticket, lives, is_rogue, reaper, due, paid, owed, ticket_of, ticket_at};
 ghost use Rattle.desk_law.specs.Rings.{waiting, passed, done_ticket};
 ghost use Rattle.desk_law.specs.Calls.{links, link_memory, queues, queue_memory, queue_caller, signalled, senses, sense_memory, unlinks, unlink_memory, ends};
 ghost use Rattle.desk_law.specs.Taking.{is_again, is_check, takes, take_memory, taken};
@@ -18,10 +18,14 @@ use bench_words::Words;
 use chip_regs::Regs;
 use desk_law::{Stage, Taken, Ticket};
 use dma_buddy::Region;
-use host_map::{BLOCK_BYTES, BLOCKS, FRONT, RINGP, START_RING, is_command_block};
+use host_map::{
+    BLOCK_BYTES, BLOCKS, BUFFERS, CHUNK_COUNT, DONE_RING, FRONT, RINGP, START_RING,
+    is_command_block,
+};
 use job_rings::{clear_done, put_start};
-use rig_types::{Line, Outcome, Unit};
+use rig_types::{Line, Outcome, Rig, Unit, Work};
 use sense_job::turn;
+use std::alloc::{AllocError, Global};
 use std::marker::Model;
 use tag_tables::{link, unlink};
 
@@ -76,6 +80,17 @@ impl Model for Desk {
         × IsIndex d.by_block.items d.by_tag.items d.tickets.items };
 }
 
+/// So many places without a ticket.
+fn no_tickets(alloc: Global, places: u32) -> Result<Vec<Option<u32>>, AllocError>
+    ensures { IfOk result (λ v. v.items ≡ replicate places None) }
+{
+    let mut held = Vec::with_capacity(alloc, places as usize)?;
+    for _ in 0..places {
+        held.push(None)?;
+    }
+    Ok(held)
+}
+
 /// The start slot behind a slot.
 fn next_slot(slot: u32) -> u32
     requires { IsSlot START_RING slot }
@@ -86,6 +101,28 @@ fn next_slot(slot: u32) -> u32
 }
 
 impl Desk {
+    /// A desk without tickets, with all chunks free. Its one error is want of memory.
+    #[tactic(auto, using(crate::proofs::Opening::whole_space, crate::proofs::Opening::index_of_none, crate::proofs::Opening::desk_of_none))]
+    pub fn open(alloc: Global, rig: &Rig, work: &Work) -> Result<Desk, AllocError>
+        ensures { IfOk result (λ d. d ≡ desk_opened rig.now.version rig.now.units rig.now.retries rig.now.autosense (length work.now.submitters)) }
+    {
+        let submitters = work.submitters.as_slice().len();
+        Ok(Desk {
+            version: rig.version,
+            units: Vec::from_slice(alloc, rig.units.as_slice())?,
+            retries: rig.retries,
+            autosense: rig.autosense,
+            submitters: submitters as u16,
+            tickets: Vec::new(alloc),
+            by_block: no_tickets(alloc, 256)?,
+            by_tag: no_tickets(alloc, 4096)?,
+            put: START_RING,
+            take: DONE_RING,
+            region: Region::new(alloc, BUFFERS, CHUNK_COUNT)?,
+            due: vec![in alloc; 0; submitters + 3]?,
+        })
+    }
+
     /// The stage of a ticket. It was built.
     pub fn stage(&self, t: u32) -> Stage
         requires { t < length self.now.tickets }

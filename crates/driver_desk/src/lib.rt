@@ -4,5 +4,6 @@
 
 mod blocks;
 mod desk;
+mod reporting;
 
 pub use desk::Desk;
