@@ -1,0 +1,21 @@
+//! Laws of tags and tasks. Each function does nothing; its contract is the law.
+
+ghost use Rattle.ticket_link.specs.Laws.{TagsNameOne, ConnectedIsItsTicket, WaitingAreTheirTickets, OneTargetMoves};
+
+/// Where each Build takes a tag that no live ticket of the unit has, a tag of a unit names at most one live ticket,
+/// after every list of moves.
+pub fn tags_name_one()
+    ensures { TagsNameOne }
+{}
+
+/// A connected task is that of the live ticket of its unit with its tag; the tasks that wait at a unit are those of its
+/// tickets that are away, each once and with the ticket's tag.
+pub fn tasks_are_their_tickets()
+    ensures connected { ConnectedIsItsTicket }
+    ensures waiting { WaitingAreTheirTickets }
+{}
+
+/// A move leaves every target but one, and the tickets of every target but that one.
+pub fn one_target_moves()
+    ensures { OneTargetMoves }
+{}

@@ -1,0 +1,7 @@
+//! How targets with their lists of tasks by tag and tickets fit one another: definitions, with their laws over every
+//! list of moves. Nothing here runs.
+#![tactic(auto)]
+
+mod laws;
+
+pub use laws::{one_target_moves, tags_name_one, tasks_are_their_tickets};
