@@ -9,3 +9,4 @@ pub mod Growth
 pub mod Settled
 pub mod CountLaws
 pub mod Decided
+pub mod OneOpening

@@ -1,5 +1,5 @@
 -- What a bench is to its callers: the rig and the work, the list of its steps, and the world in which they left it.
-use Rattle.std.specs.Prelude.{◌≡◌, ℕ, List, ◌++◌, ◌∷◌, []}
+use Rattle.std.specs.Prelude.{◌≡◌, ◌≤◌, ℕ, List, length}
 use Rattle.rig_types.specs.declared.step.Entry.{Entry}
 use Rattle.world_law.specs.World.{BenchSetting, World}
 use Rattle.world_law.specs.Opening.{opened}
@@ -16,3 +16,9 @@ pub record IsReplayed (g : BenchSetting) (es : List Entry) (w : World) : Type 0 
   pub run : IsRun g (opened g) moments
   pub are : entries moments ≡ es
   pub world : last (opened g) moments ≡ w
+
+-- the list has as many entries as a rig may allow at most, and there is room for as many as this one allows
+pub record IsBench (g : BenchSetting) (es : List Entry) (w : World) (capacity : ℕ) : Type 0 where
+  pub replayed : IsReplayed g es w
+  pub few : length es ≤ 4194304
+  pub room : g.step_limit ≤ capacity

@@ -3,10 +3,12 @@
 #![tactic(auto)]
 
 mod acting;
+mod bench;
 mod desk_steps;
 mod drained;
 mod enabling;
 mod reading;
+mod recording;
 mod repairing;
 mod restarting;
 mod seeing;
@@ -14,4 +16,5 @@ mod state;
 mod sweeping;
 mod tickets;
 
+pub use bench::Bench;
 pub use state::{Lines, State};
