@@ -5,5 +5,6 @@ pub mod Contained
 pub mod Fitting
 pub mod Serial
 pub mod Bound
+pub mod Headline
 pub mod Rows
 pub mod Laws
