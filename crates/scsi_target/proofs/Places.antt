@@ -3,9 +3,10 @@ use Rattle.std.specs.List.{list_any}
 use Rattle.std.proofs.Common.{◌≡◌, ◌≢◌, ℕ, zero, suc, ◌≤◌, ◌<◌, Bool, ◌||◌, List, [], ◌∷◌, refl, ap, arith, sym, ◌∙◌, Option, Some, None, length, slice_set, slice_index_or, max, ◌+◌, map, option_map, subst, ◌⊎◌, inl, inr}
 use Rattle.std.specs.Prelude.{slice_get}
 use Rattle.std.proofs.lemmas.List.{map-set}
-use Rattle.std.proofs.lemmas.Option.{slice_get-map, slice_get_within, get_or_from_slice_get, slice_get_read}
+use Rattle.std.proofs.lemmas.Option.{slice_get-map, slice_get_within, get_or_from_slice_get, slice_get_read, slice_get_past}
 use Rattle.std.proofs.Math.Seq.{map-set_same}
 use Rattle.target_law.specs.Lawful.{IsThere}
+use Rattle.target_law.specs.Rigs.{rig_of}
 use Rattle.target_law.specs.Target.{LogicalUnit, flat, unit_at, with_unit, slot_reset, unit_reset}
 use Rattle.unit_law.proofs.Views.{same_or_not}
 use Rattle.unit_tasks.specs.declared.queued.QueuedUnit.{QueuedUnit}
@@ -149,3 +150,10 @@ unit_read d slots link v lun o n l e = subst (λ (x : DeviceState). unit_at x.ta
 pub any-places : (test : Option LogicalUnit → Bool) (slots : List (Option QueuedUnit)) → list_any (λ o. test (slot_of o)) slots ≡ list_any test (map slot_of slots)
 any-places test [] = refl
 any-places test (o ∷ slots) = ap (λ b. test (slot_of o) || b) (any-places test slots)
+
+-- what the rig says of the unit of a LUN
+pub rig_past : (slots : List (Option QueuedUnit)) (lun : ℕ) → length slots ≤ lun → None ≡ rig_of (unit_at (map slot_of slots) lun)
+rig_past slots lun l = sym (ap rig_of (unit_is slots lun None (slice_get_past slots lun l)))
+
+pub rig_there : (slots : List (Option QueuedUnit)) (lun : ℕ) (o : Option QueuedUnit) → lun < length slots → o ≡ slice_index_or slots lun o → rig_of (slot_of o) ≡ rig_of (unit_at (map slot_of slots) lun)
+rig_there slots lun o l e = sym (ap rig_of (unit_is slots lun (Some o) (slice_get_read slots (length slots) lun o refl l e)))

@@ -1,20 +1,22 @@
 //! Selection, reselection, choices and moves.
 
-ghost use Rattle.std.specs.Prelude.{◌≡◌, ◌<◌, ◌≤◌, false, length};
+ghost use Rattle.std.specs.Prelude.{◌≡◌, ◌<◌, ◌≤◌, Bool, false, length, vec_len};
 ghost use Rattle.target_law.specs.Session.{Task, acted};
 ghost use Rattle.target_law.specs.Sound.{IsSound, IsWaiting};
 ghost use Rattle.target_law.specs.RoguePhases.{rogue_chosen};
-ghost use Rattle.target_law.specs.Target.{session, unit_at, linked};
+ghost use Rattle.target_law.specs.Target.{BusFree, session, unit_at, linked, parted};
 ghost use Rattle.unit_tasks.specs.Units.{unit_of};
 ghost use Rattle.target_law.specs.Calls.{IsToChoose, is_rogue_connected, asked_by, link_or_free, candidates, selected_by, target_selected, target_reselected, target_acted};
 ghost use Rattle.target_law.specs.Lawful.{CanOf, IsThere, May, Named};
 ghost use Rattle.target_law.specs.Devices.{where_room};
 ghost use Rattle.scsi_target.specs.Devices.{IsFree, IsPresent};
 ghost use Rattle.scsi_target.specs.Moves.{has_room, unit_moved, connection_moved};
-ghost use Rattle.scsi_target.specs.Views.{link_of};
+ghost use Rattle.scsi_target.specs.Views.{device_of, link_of, IsDevice};
 
 use crate::connection_state::{ConnectionState, MessageBuffer};
 use crate::device::Device;
+use crate::task_exit::{TaskExit, part};
+use std::mem;
 use target_law::{Move, Nexus, ReselectByte, RoguePhase};
 use target_session::Connection;
 use unit_tasks::QueuedUnit;
@@ -34,11 +36,9 @@ impl Device {
     /// The n-th candidate of a unit reselects, by rising tag from 0: it shows MSG_IN with its name. A unit that breaks
     /// the rules shows `tag`.
     ///
-    /// Condition: the target isn't absent and isn't connected, the LUN is there, and `n` is below the number of the
-    /// unit's candidates.
+    /// Condition: the target isn't connected, the LUN is there, and `n` is below the number of the unit's candidates.
     pub fn reselect(&mut self, lun: u8, n: u32, tag: u8)
         requires free { IsFree self.old }
-        requires present { IsPresent self.old }
         requires candidate { IsThere (unit_at self.old.target.units lun) (λ u. n < candidates u) }
         ensures { self.new ≡ record { target = target_reselected self.old.target lun n tag; rooms = self.old.rooms } }
     {
@@ -127,6 +127,32 @@ impl Device {
         if let ConnectionState::TaskConnected(connection) = &mut self.link {
             connection.ask_message();
         }
+    }
+
+    /// The target leaves the bus. A connected task waits among the others then, as after DISCONNECT.
+    pub fn leave(&mut self)
+        ensures { self.new ≡ record { target = linked (parted self.old.target.link self.old.target) BusFree; rooms = self.old.rooms } }
+    {
+        let link = mem::replace(&mut self.link, ConnectionState::BusFree);
+        self.link = left(&mut self.units, link);
+    }
+}
+
+/// The link of a target that leaves the bus, with its task away.
+fn left(units: &mut Vec<Option<QueuedUnit>>, link: ConnectionState) -> ConnectionState
+    requires device { (rogue : Bool) × IsDevice (vec_len units.old) units.old.items link rogue }
+    ensures state { let d = device_of units.old.items link in
+        device_of units.new.items result ≡ record { target = linked (parted d.target.link d.target) BusFree; rooms = d.rooms } }
+    ensures device { (rogue : Bool) → IsDevice (vec_len units.old) units.old.items link rogue →
+        IsDevice (vec_len units.new) units.new.items result rogue }
+{
+    match link {
+        ConnectionState::TaskConnected(connection) => part(
+            units,
+            connection,
+            TaskExit::Disconnected,
+        ),
+        _ => ConnectionState::BusFree,
     }
 }
 

@@ -1,6 +1,6 @@
 //! The device: its opening, and what can be read of it.
 
-ghost use Rattle.std.specs.Prelude.{◌≡◌, ◌<◌, ◌+◌, ℕ, Some, None, true, false, not, length, replicate, vec_len, slice_get, IfOk, IfSome, OnOk, OnErr};
+ghost use Rattle.std.specs.Prelude.{◌≡◌, ◌<◌, ◌+◌, ℕ, Some, None, true, false, not, length, map, replicate, vec_len, slice_get, IfOk, IfSome, OnOk, OnErr};
 ghost use Rattle.std.specs.List.{list_any};
 ghost use Rattle.plain_lun.specs.Unit.{blocks_of};
 ghost use Rattle.plain_lun.specs.Performing.{blocks_at};
@@ -9,6 +9,7 @@ ghost use Rattle.target_law.specs.Calls.{is_free, is_rogue, is_rogue_connected, 
 ghost use Rattle.target_law.specs.Beginning.{has_place};
 ghost use Rattle.target_law.specs.Devices.{room_at, device_opened, device_reserved};
 ghost use Rattle.target_law.specs.Lawful.{IsThere};
+ghost use Rattle.target_law.specs.Rigs.{rig_of};
 ghost use Rattle.scsi_target.specs.Devices.{IsOneTarget, IsPresent, first_is_rogue, HasUnit, place_for};
 ghost use Rattle.scsi_target.specs.Slots.{slot_of, has_unit_in, answers_in};
 
@@ -132,6 +133,13 @@ impl Device {
         }
     }
 
+    /// What the rig says of the unit with a LUN, `None` exactly where there is none.
+    pub fn unit(&self, lun: u8) -> Option<Unit>
+        ensures { result ≡ rig_of (unit_at self.now.target.units lun) }
+    {
+        rig_at(&self.units, lun)
+    }
+
     /// Whether `begin_task` may be called with a ticket: the named unit has a task of that tag, so that none begins, or
     /// fewer tasks than its depth. It is true where no nexus is named.
     pub fn has_place(&self) -> bool
@@ -157,6 +165,13 @@ impl Device {
         ensures link { result ≡ false → is_rogue_connected self.now.target.link ≡ false }
     {
         self.rogue
+    }
+
+    /// Whether units that break the rules are connected.
+    pub fn is_rogue_connected(&self) -> bool
+        ensures { result ≡ is_rogue_connected self.now.target.link }
+    {
+        matches!(self.link, ConnectionState::RogueConnected(..))
     }
 
     /// Whether the target is absent: it has units, and none of them answers.
@@ -211,6 +226,26 @@ fn has_place_in(unit: &Option<QueuedUnit>, tag: u8) -> bool
     match unit {
         Some(unit) => unit.tasks.has_tag(tag) || unit.tasks.len() < unit.rig.depth as usize,
         None => false,
+    }
+}
+
+/// What the rig says of the unit with a LUN, if there is one.
+fn rig_at(units: &Vec<Option<QueuedUnit>>, lun: u8) -> Option<Unit>
+    ensures { result ≡ rig_of (unit_at (map slot_of units.now.items) lun) }
+{
+    if units.len() <= lun as usize {
+        return None;
+    }
+    rig_in(&units[lun as usize])
+}
+
+/// What the rig says of the unit in a place, if there is one.
+fn rig_in(unit: &Option<QueuedUnit>) -> Option<Unit>
+    ensures { result ≡ rig_of (slot_of unit.now) }
+{
+    match unit {
+        Some(unit) => Some(unit.rig),
+        None => None,
     }
 }
 

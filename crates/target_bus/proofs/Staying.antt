@@ -80,7 +80,7 @@ not-both : (a : Bool) → a ≡ true → a ≡ false → ⊥
 not-both true e f = absurd cc
 not-both false e f = absurd cc
 
-quiet : (a : Bool) → (a ≡ true → ⊥) → a ≡ false
+pub quiet : (a : Bool) → (a ≡ true → ⊥) → a ≡ false
 quiet true h = absurd (h refl)
 quiet false h = refl
 
@@ -123,7 +123,7 @@ held-by : (gone : Bool) (n : ℕ) (b : BusState) (id : ℕ) (d : DeviceState) �
 held-by true n b id d c s q o = record { counted = c; seven = length-set b.devices id d ∙ s; one = o; acknowledges = λ e. absurd cc }
 held-by false n b id d c s q o = record { counted = c; seven = length-set b.devices id d ∙ s; one = o; acknowledges = λ e. absurd (not-both b.ack e q) }
 
-becomes-held : (n : ℕ) (b : BusState) (id : ℕ) (d : DeviceState) → n ≡ 7 → length b.devices ≡ 7 → b.ack ≡ false → OneConnected (becomes b id d) → IsHeldBus n (becomes b id d)
+pub becomes-held : (n : ℕ) (b : BusState) (id : ℕ) (d : DeviceState) → n ≡ 7 → length b.devices ≡ 7 → b.ack ≡ false → OneConnected (becomes b id d) → IsHeldBus n (becomes b id d)
 becomes-held n b id d c s q o = held-by (is_free d.target.link) n b id d c s q o
 
 pub messaged-is : (b : BusState) (id : ℕ) → b.connected ≡ Some id → is_message_out (link_phase (link_on b)) ≡ true
@@ -173,7 +173,7 @@ took-held n live b id byte h e t =
 
 -- ---- what is read at a place
 
-read-is : (ds : List DeviceState) (id : ℕ) (d : DeviceState) → id < length ds → d ≡ slice_index_or ds id d → d ≡ slice_index_or ds id no_device
+pub read-is : (ds : List DeviceState) (id : ℕ) (d : DeviceState) → id < length ds → d ≡ slice_index_or ds id d → d ≡ slice_index_or ds id no_device
 read-is [] id d l e = absurd (omega (arith, l))
 read-is (x ∷ ds) zero d l e = e
 read-is (x ∷ ds) (suc id) d l e = read-is ds id d (omega (arith, l)) e
@@ -201,7 +201,7 @@ pub untook : (live : Nexus → Option ℕ) (t : Target) (byte : ℕ) → link_ta
 unfolding target_took
 untook live t byte e = rw e refl
 
-set-same : (ds : List DeviceState) (id : ℕ) (d : DeviceState) → d ≡ slice_index_or ds id no_device → slice_set ds id d ≡ ds
+pub set-same : (ds : List DeviceState) (id : ℕ) (d : DeviceState) → d ≡ slice_index_or ds id no_device → slice_set ds id d ≡ ds
 set-same [] id d e = refl
 set-same (x ∷ ds) zero d e = ap (λ (y : DeviceState). y ∷ ds) e
 set-same (x ∷ ds) (suc id) d e = ap (λ (ys : List DeviceState). x ∷ ys) (set-same ds id d e)

@@ -1,1 +1,4 @@
 pub mod Fields
+pub mod Candidates
+pub mod Live
+pub mod LiveLaw

@@ -1,8 +1,8 @@
-//! The bus, and each call of the chip but those by which a target connects or chooses.
+//! The bus: its bytes, ATN and ACK.
 
-ghost use Rattle.std.specs.Prelude.{◌≡◌, true};
+ghost use Rattle.std.specs.Prelude.{◌≡◌, ◌<◌, true};
 ghost use Rattle.target_law.specs.Calls.{link_phase, link_takes};
-ghost use Rattle.bus_law.specs.Bus.{link_on};
+ghost use Rattle.bus_law.specs.Bus.{device_at, link_on};
 ghost use Rattle.bus_law.specs.Bytes.{byte_of, after_byte_in, after_byte_out, if_asked, is_same_phase};
 ghost use Rattle.bus_law.specs.Attention.{after_atn, after_ack, messaged, is_message_out};
 ghost use Rattle.target_bus.specs.Fields.{kept_if, ticket_on, ack_by};
@@ -17,12 +17,12 @@ use target_law::Nexus;
 #[derive(Drop)]
 pub struct TargetBus {
     /// The devices by SCSI ID. One without units stands where there is no target.
-    devices: Vec<Device>,
-    connected: Option<u8>,
-    atn: bool,
-    ack: bool,
+    pub(crate) devices: Vec<Device>,
+    pub(crate) connected: Option<u8>,
+    pub(crate) atn: bool,
+    pub(crate) ack: bool,
     /// The phase that was asked for last. A byte comes only in this phase.
-    asked: Option<Phase>,
+    pub(crate) asked: Option<Phase>,
 }
 
 impl Model for TargetBus {
@@ -38,6 +38,16 @@ impl Model for TargetBus {
 }
 
 impl TargetBus {
+    /// The device of a SCSI ID, for what its units show.
+    ///
+    /// Condition: the ID is 0 to 6.
+    pub fn device(&self, id: u8) -> &Device
+        requires { id < 7 }
+        ensures { result.now ≡ device_at self.now id }
+    {
+        &self.devices[id as usize]
+    }
+
     /// The phase that the connected target shows, `None` exactly where none is connected or it is to choose.
     pub fn shown(&self) -> Option<Phase>
         ensures { result ≡ link_phase (link_on self.now) }
@@ -145,7 +155,7 @@ fn ticket_on<L: LiveTickets>(tickets: &L, target: u8, nexus: Option<Nexus>) -> O
 }
 
 /// Who is connected, of a device that was: none where it has left the bus.
-fn kept_if(bound: bool, id: u8) -> Option<u8>
+pub(crate) fn kept_if(bound: bool, id: u8) -> Option<u8>
     ensures { result ≡ kept_if bound id }
 {
     if bound { Some(id) } else { None }

@@ -1,0 +1,21 @@
+use Rattle.std.proofs.Common.{◌∙◌, sym, refl, arith}
+use Rattle.bus_law.specs.Bus.{device_reset}
+use Rattle.target_bus.proofs.Resets.{first-none, first-all, step-more}
+use Rattle.target_bus.proofs.resetting.reset_all.Goals as goal
+
+pub loop-i-init : goal.loop-i-init
+loop-i-init c = record { devices = sym (first-none device_reset c.args.devices.now.items); count = refl }
+
+pub loop-i-preserved : goal.loop-i-preserved
+loop-i-preserved c =
+    let ok = c.args.devices.now.ok in
+    record {
+      devices = step-more device_reset c.args.devices.now.items c.loop-i.devices.items c.loop-i.i c.index_mut.result.now c.reset.new.self c.loop-i.invariant.devices c.index_mut.ensures.value c.reset.ensures (omega arith);
+      count = c.loop-i.invariant.count;
+    }
+
+pub returns-clause-devices : goal.returns-clause-devices
+returns-clause-devices c =
+    let ok = c.args.devices.now.ok in
+    let end = c.loop-i.auto.i-end in
+    c.loop-i.invariant.devices ∙ first-all device_reset c.loop-i.i c.args.devices.now.items (omega arith)
