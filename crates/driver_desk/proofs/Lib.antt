@@ -1,10 +1,5 @@
-pub mod Additions
-pub mod Freeing
-pub mod GivenBack
 pub mod Index
-pub mod Keys
 pub mod Opening
-pub mod Refusing
 pub mod Remaining
 pub mod Segments
 pub mod Slots

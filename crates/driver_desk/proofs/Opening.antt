@@ -8,12 +8,7 @@ use Rattle.dma_buddy.specs.Regions.{Space, IsAmong, IsChunkOf, IsListed, IsRegio
 use Rattle.dma_buddy.proofs.Sets.{same-members, same-space}
 use Rattle.dma_buddy.proofs.Sizes.{same-chunk}
 use Rattle.desk_law.specs.Desk.{whole_chunk}
-use Rattle.rig_types.specs.declared.rig.Unit.{Unit as RigUnit}
-use Rattle.rig_types.specs.Ranges.{IsRig}
-use Rattle.dma_buddy.proofs.Held.{none-out}
-use Rattle.driver_desk.specs.declared.reporting.Room.{Room}
 use Rattle.driver_desk.specs.Kept.{IsIndex, IsDesk}
-use Rattle.driver_desk.specs.Held.{Keyed, block_key, tag_key, IsKept}
 
 -- ---- the chunks
 
@@ -66,10 +61,10 @@ whole_space s r w base units =
     same-space s whole base units
     (same-members s.free (wholes 0 32) r.listed (whole-listed 0 32)
     (λ c f. let k = (w c).0 f in let n = (c.base - 0x200000) / 65536 in
-        let aligned : c.base % 65536 ≡ 0 = subst (λ (x : ℕ). c.base % x ≡ 0) k.1 k.0.chunk.aligned in
-        let there : n < 0 + 32 = omega (arith, k.0.to, k.0.from, k.1, base, units) in
-        let at : c.base ≡ 0x200000 + 65536 * n = omega (arith, aligned, k.0.from, base) in
-        subst (λ (x : Chunk). IsAmong (wholes 0 32) x) (sym (same-chunk c (whole_chunk n) at k.1)) (among-wholes 0 32 n (omega arith) there))
+    let aligned : c.base % 65536 ≡ 0 = subst (λ (x : ℕ). c.base % x ≡ 0) k.1 k.0.chunk.aligned in
+    let there : n < 0 + 32 = omega (arith, k.0.to, k.0.from, k.1, base, units) in
+    let at : c.base ≡ 0x200000 + 65536 * n = omega (arith, aligned, k.0.from, base) in
+    subst (λ (x : Chunk). IsAmong (wholes 0 32) x) (sym (same-chunk c (whole_chunk n) at k.1)) (among-wholes 0 32 n (omega arith) there))
     (λ c i. let q = from-wholes 0 32 c i in (w c).1 (subst (λ (x : Chunk). IsChunkOf s x × (x.size ≡ 65536)) (sym q.3) (is-whole s base units q.0 q.2))))
 
 -- ---- the index
@@ -80,47 +75,6 @@ index_of_none = record {
   tags = length-replicate {A = Option ℕ} 4096 None;
   block = λ b below. get_or-replicate 256 b None None below;
   tag = λ u g few byte. get_or-replicate 4096 (256 * u + g) None None (omega (arith, few, byte));
-}
-
--- ---- what the desk keeps
-
-none-here : (n a i : ℕ) → get_or (replicate n None) a None ≡ Some i → ⊥
-none-here zero a i e = cc
-none-here (suc n) zero i e = cc
-none-here (suc n) (suc a) i e = none-here n a i e
-
-keyed-none : (size : ℕ) (key : Ticket → ℕ) → Keyed size key (replicate size None) []
-keyed-none size key = record {
-  count = length-replicate {A = Option ℕ} size None;
-  within = λ i low l. absurd (omega (arith, low));
-  found = λ i low l. absurd (omega (arith, low));
-  only = λ a i e. absurd (none-here size a i e);
-}
-
-pub kept_of_none : (version : ℕ) (us : List RigUnit) (retries steps : ℕ) (s : Space) → IsRig version us retries steps → s.base ≡ 0x200000 → s.units ≡ 32
-    → IsKept version us retries (replicate 256 None) (replicate 4096 None) (replicate 256 None) s []
-kept_of_none version us retries steps s r base units = record {
-  rig = record {
-    first_version = r.first_version;
-    last_version = r.last_version;
-    some_units = r.some_units;
-    few_units = r.few_units;
-    in_range = r.in_range;
-    agree = r.agree;
-    all_depths = r.all_depths;
-    few_retries = r.few_retries;
-    some_steps = lit≤ tt;
-    few_steps = lit≤ tt;
-  };
-  blocks = keyed-none 256 block_key;
-  tags = keyed-none 4096 tag_key;
-  bytes = λ i d low. absurd (omega (arith, low));
-  buffers = λ i d low. absurd (omega (arith, low));
-  places = length-replicate {A = Option Room} 256 None;
-  reports = λ i low l. absurd (omega (arith, low));
-  base = base;
-  chunks = units;
-  out = none-out s;
 }
 
 -- ---- the rest

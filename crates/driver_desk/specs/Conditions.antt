@@ -1,21 +1,12 @@
 -- When calls of the desk may be made, and what TakeDone answers (own).
-use Rattle.std.specs.Prelude.{ℕ, false, List, map, zip, None, unwrap_or}
+use Rattle.std.specs.Prelude.{ℕ, List, unwrap_or}
 use Rattle.desk_law.specs.declared.stage.Stage.{Stage}
-use Rattle.desk_law.specs.declared.stage.Stage.TheVariants.{Built, Linked, Queued, Again, Sensing, Ended}
+use Rattle.desk_law.specs.declared.stage.Stage.TheVariants.{Linked, Queued, Again, Sensing, Ended}
 use Rattle.desk_law.specs.declared.stage.Taken.{Taken}
 use Rattle.desk_law.specs.declared.stage.Taken.TheVariants as answer
 use Rattle.desk_law.specs.declared.stage.Stage.TheVariants as stage
 use Rattle.desk_law.specs.Desk.{DeskState}
 use Rattle.desk_law.specs.Rings.{done_ticket}
-use Rattle.rig_types.specs.declared.step.Line.{Line}
-use Rattle.dma_buddy.specs.declared.buddies.Chunk.{Chunk}
-use Rattle.desk_law.specs.declared.ticket.Ticket.{Ticket}
-use Rattle.desk_law.specs.Building.{piece}
-use Rattle.unit_law.specs.Request.{RequestData}
-use Rattle.desk_law.specs.declared.refused.Refused.{Refused as Reason}
-use Rattle.desk_law.specs.Refusals.{Refuses}
-use Rattle.driver_desk.specs.declared.fault.BuildFault.{BuildFault}
-use Rattle.driver_desk.specs.declared.fault.BuildFault.TheVariants.{Refused, OutOfMemory}
 
 -- a ticket is put into the start ring after Link, and where it was refused
 abbrev pub MayQueue : Stage → Type 0
@@ -43,24 +34,3 @@ abbrev pub answer_of : Stage → ℕ → Taken
 answer_of Again t = answer.Again t
 answer_of stage.Check t = answer.Check t
 answer_of _ t = answer.Ended t
-
--- why Build fails: for the one reason by which the request is refused, or for want of memory, and then nothing refuses it
-abbrev pub FaultOf : DeskState → RequestData → BuildFault → Type 0
-FaultOf d r (Refused a) = Refuses d r a
-FaultOf d r OutOfMemory = (a : Reason) → Refuses d r a → ⊥
-
--- the ticket of an accepted request, with its tag, block and chunks
-abbrev pub built_ticket : Line → RequestData → (tag block : ℕ) → List Chunk → Ticket
-built_ticket l r tag block chunks = record {
-  line = l;
-  unit = r.unit;
-  tag = tag;
-  block = block;
-  direction = r.direction;
-  pieces = map piece (zip chunks r.segments);
-  stage = Built;
-  outcome = None;
-  tries = 0;
-  checked = false;
-  sensed = false;
-}

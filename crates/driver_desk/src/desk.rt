@@ -1,37 +1,29 @@
 //! The desk.
 
-ghost use Rattle.std.specs.Prelude.{◌≡◌, ◌<◌, ◌+◌, ◌^◌, ◌==◌, ℕ, length, true, false, None, replicate, IfOk, IfSome, IsSome, MatchOption, MatchResult};
+ghost use Rattle.std.specs.Prelude.{◌≡◌, ◌<◌, ◌+◌, ◌^◌, ◌==◌, ℕ, length, true, false, None, replicate, IfOk, IsSome};
 ghost use Rattle.std.specs.List.{list_any};
 ghost use Rattle.bench_words.specs.Memory.{word_at};
 ghost use Rattle.host_map.specs.declared.TheConstants.{RINGP, START_RING, DONE_RING};
 ghost use Rattle.host_map.specs.Places.{IsCommandBlock};
 ghost use Rattle.job_rings.specs.Rings.{IsSlot, next_slot};
-ghost use Rattle.desk_law.specs.Desk.{desk_opened, ticket, with_ticket, lives, live_count, is_rogue, reaper, due, paid, owed, ticket_of, ticket_at};
+ghost use Rattle.desk_law.specs.Desk.{desk_opened, ticket, with_ticket, lives, is_rogue, reaper, due, paid, owed, ticket_of, ticket_at};
 ghost use Rattle.desk_law.specs.Rings.{waiting, passed, done_ticket};
-ghost use Rattle.desk_law.specs.Calls.{links, link_memory, queues, queue_memory, queue_caller, signalled, senses, sense_memory, unlinks, unlink_memory, ends, Frees};
-ghost use Rattle.unit_law.specs.Request.{plain};
-ghost use Rattle.desk_law.specs.Refusals.{kind_of, is_full, Refuses};
-ghost use Rattle.desk_law.specs.Building.{free_block, free_tag, Builds};
-ghost use Rattle.desk_law.specs.Reporting.{report_at};
+ghost use Rattle.desk_law.specs.Calls.{links, link_memory, queues, queue_memory, queue_caller, signalled, senses, sense_memory, unlinks, unlink_memory, ends};
 ghost use Rattle.desk_law.specs.Taking.{is_again, is_check, takes, take_memory, taken};
-ghost use Rattle.desk_law.specs.declared.stage.Stage.TheVariants.{Built, Check, Unlinked};
-ghost use Rattle.driver_desk.specs.Conditions.{MayQueue, MayEnd, IsEnded, FaultOf, next_done, answer_of};
+ghost use Rattle.desk_law.specs.declared.stage.Stage.TheVariants.{Built, Check};
+ghost use Rattle.driver_desk.specs.Conditions.{MayQueue, MayEnd, IsEnded, next_done, answer_of};
 
 use crate::blocks::{begin_anew, has_status, is_marked, settle_ticket};
-use crate::building::{new_ticket, write_ticket};
-use crate::fault::BuildFault;
-use crate::giving::{give_all, put_back};
-use crate::refusals::kind_of;
-use crate::reporting::{Room, report_of};
 use bench_words::Words;
 use chip_regs::Regs;
-use desk_law::{Refused, Stage, Taken, Ticket};
+use desk_law::{Stage, Taken, Ticket};
 use dma_buddy::Region;
 use host_map::{
-    BLOCK_BYTES, BLOCK_COUNT, BLOCKS, BUFFERS, CHUNK_COUNT, DONE_RING, FRONT, RINGP, START_RING, block_at, is_command_block,
+    BLOCK_BYTES, BLOCKS, BUFFERS, CHUNK_COUNT, DONE_RING, FRONT, RINGP, START_RING,
+    is_command_block,
 };
 use job_rings::{clear_done, put_start};
-use rig_types::{Line, Outcome, Report, Request, Rig, Unit, Work};
+use rig_types::{Line, Outcome, Rig, Unit, Work};
 use sense_job::turn;
 use std::alloc::{AllocError, Global};
 use std::marker::Model;
@@ -47,8 +39,7 @@ const QUEUE_FULL: u8 = 0x28;
 /// The tickets of a bench, the positions in both rings, the buffer region and the signals that are due. Contracts see
 /// it as the desk's state of `desk_law`.
 ///
-/// Beside the tickets it keeps for each block, and for each tag of each unit, the live ticket that has it, and by block
-/// the memory of its report.
+/// Beside the tickets it keeps for each block, and for each tag of each unit, the live ticket that has it.
 #[derive(Drop)]
 pub struct Desk {
     version: u8,
@@ -59,7 +50,6 @@ pub struct Desk {
     tickets: Vec<Ticket>,
     by_block: Vec<Option<u32>>,
     by_tag: Vec<Option<u32>>,
-    rooms: Vec<Option<Room>>,
     put: u32,
     take: u32,
     region: Region,
@@ -70,7 +60,6 @@ impl Model for Desk {
     ghost use Rattle.std.specs.Prelude.{length};
     ghost use Rattle.desk_law.specs.Desk.{DeskState};
     ghost use Rattle.driver_desk.specs.Kept.{IsDesk, IsIndex};
-    ghost use Rattle.driver_desk.specs.Held.{IsKept};
 
     ghost Value = { DeskState };
 
@@ -88,30 +77,7 @@ impl Model for Desk {
     } };
 
     ghost invariant = { λ d. IsDesk (length d.units.items) d.submitters d.retries d.put d.take (length d.due.items) d.tickets.items
-        × IsIndex d.by_block.items d.by_tag.items d.tickets.items
-        × IsKept d.version d.units.items d.retries d.by_block.items d.by_tag.items d.rooms.items d.region d.tickets.items };
-}
-
-/// So many places without a ticket.
-fn no_tickets(alloc: Global, places: u32) -> Result<Vec<Option<u32>>, AllocError>
-    ensures { IfOk result (λ v. v.items ≡ replicate places None) }
-{
-    let mut held = Vec::with_capacity(alloc, places as usize)?;
-    for _ in 0..places {
-        held.push(None)?;
-    }
-    Ok(held)
-}
-
-/// No memory of reports, for each block.
-fn rooms(alloc: Global) -> Result<Vec<Option<Room>>, AllocError>
-    ensures { IfOk result (λ v. v.items ≡ replicate 256 None) }
-{
-    let mut rooms = Vec::with_capacity(alloc, 256)?;
-    for _ in 0..256u32 {
-        rooms.push(None)?;
-    }
-    Ok(rooms)
+        × IsIndex d.by_block.items d.by_tag.items d.tickets.items };
 }
 
 /// So many places without a ticket.
@@ -150,7 +116,6 @@ impl Desk {
             tickets: Vec::new(alloc),
             by_block: no_tickets(alloc, 256)?,
             by_tag: no_tickets(alloc, 4096)?,
-            rooms: rooms(alloc)?,
             put: START_RING,
             take: DONE_RING,
             region: Region::new(alloc, BUFFERS, CHUNK_COUNT)?,
@@ -310,111 +275,8 @@ impl Desk {
         found
     }
 
-    /// How many tickets of a unit live.
-    fn live_count(&self, unit: u8) -> usize
-        ensures { result ≡ live_count self.now unit }
-    {
-        self.tickets
-            .iter()
-            .filter(|k| !matches!(k.stage, Stage::Freed) && k.unit == unit)
-            .count()
-    }
-
-    /// Why a request is refused, but for want of chunks.
-    fn refusal(&self, r: &Request) -> Option<Refused>
-        ensures { MatchOption result
-            ((kind_of self.now.units (plain r.now) ≡ None) × (is_full self.now r.now.unit ≡ false))
-            (λ a. Refuses self.now (plain r.now) a) }
-    {
-        if let Some(kind) = kind_of(self.units.as_slice(), r) {
-            return Some(Refused::BadRequest(kind));
-        }
-        let depth = self.units[r.unit as usize].depth;
-        if self.live_count(r.unit) >= usize::from(depth) {
-            return Some(Refused::LunFull { depth });
-        }
-        None
-    }
-
-    /// The least block that no live ticket has.
-    fn free_block(&self) -> Option<u32>
-        ensures { IfSome result (λ b. (b ≡ free_block self.now) × IsCommandBlock b × (ticket_at self.now b ≡ None)) }
-    {
-        for n in 0..BLOCK_COUNT {
-            if self.by_block[n as usize].is_none() {
-                return Some(block_at(n));
-            }
-        }
-        None
-    }
-
-    /// The least tag of a unit that no live ticket of it has.
-    fn free_tag(&self, unit: u8) -> Option<u8>
-        requires { unit < length self.now.units }
-        ensures { IfSome result (λ g. (g ≡ free_tag self.now unit) × (ticket_of self.now unit g ≡ None)) }
-    {
-        let (count, apart) = if self.version == 2 { (256, 1) } else { (64, 4) };
-        for n in 0..count {
-            let tag = apart * n;
-            if self.by_tag[256 * unit as usize + tag].is_none() {
-                return Some(tag as u8);
-            }
-        }
-        None
-    }
-
-    /// Builds the ticket of a request: it has the least free block and the least free tag of its unit, and a chunk for
-    /// each segment, all or none. Its block is written whole, and the submitted bytes into its buffer. After any fault
-    /// the desk and memory are as before. The line is one of the work's.
-    pub fn build(
-        &mut self,
-        words: &mut Words,
-        line: Line,
-        request: &Request,
-    ) -> Result<u32, BuildFault>
-        requires memory { length words.old ≡ 0x400000 }
-        requires line { line.submitter < self.old.submitters }
-        requires few { length self.old.tickets + 1 < 2 ^ 32 }
-        ensures built { MatchResult result
-            (λ t. Builds self.old words.old line (plain request.now) t self.new words.new)
-            (λ f. (self.new ≡ self.old) × (words.new ≡ words.old) × FaultOf self.old (plain request.now) f) }
-        ensures size { length words.new ≡ length words.old }
-    {
-        if let Some(reason) = self.refusal(request) {
-            return Err(BuildFault::Refused(reason));
-        }
-        let block = self.free_block();
-        let tag = self.free_tag(request.unit);
-        let alloc = *self.tickets.allocator();
-        let chunks = match self.region.take_all(request.segments.as_slice()) {
-            Ok(chunks) => chunks,
-            Err(len) => return Err(BuildFault::Refused(Refused::RegionFull { len })),
-        };
-        let made = match (block, tag, self.tickets.reserve(1)) {
-            (Some(block), Some(tag), Ok(())) => {
-                new_ticket(alloc, line, request, tag, block, chunks.as_slice()).ok()
-            }
-            _ => None,
-        };
-        let Some(made) = made else {
-            put_back(&mut self.region, chunks.as_slice(), 0);
-            return Err(BuildFault::OutOfMemory);
-        };
-        let number = self.tickets.len() as u32;
-        let ticket = made.ticket;
-        write_ticket(words, &self.units[request.unit as usize], &ticket, request);
-        let place = ((ticket.block - BLOCKS) / BLOCK_BYTES) as usize;
-        self.by_block[place] = Some(number);
-        self.by_tag[256 * ticket.unit as usize + ticket.tag as usize] = Some(number);
-        self.rooms[place] = Some(made.room);
-        match self.tickets.push(ticket) {
-            Ok(()) => Ok(number),
-            Err(_) => unreachable!(),
-        }
-    }
-
     /// Enters the block of a built ticket under its tag.
-    #[tactic(auto, using(crate::proofs::Index::index_stays, crate::proofs::Index::kept_stays))]
+    #[tactic(auto, using(crate::proofs::Index::index_stays))]
     pub fn link(&mut self, words: &mut Words, t: u32)
         requires memory { length words.old ≡ 0x400000 }
         requires there { t < length self.old.tickets }
@@ -462,7 +324,7 @@ impl Desk {
 
     /// Puts the block of a ticket into the start ring, and makes a signal due: of its submitter after Link, of the
     /// reaper where it was refused. A block that was refused begins anew.
-    #[tactic(auto, using(crate::proofs::Index::index_stays, crate::proofs::Index::kept_stays, crate::proofs::Stages::queueable_lives, crate::proofs::Stages::tries_before_queue))]
+    #[tactic(auto, using(crate::proofs::Index::index_stays, crate::proofs::Stages::queueable_lives, crate::proofs::Stages::tries_before_queue))]
     pub fn queue(&mut self, words: &mut Words, t: u32)
         requires memory { length words.old ≡ 0x400000 }
         requires there { t < length self.old.tickets }
@@ -486,7 +348,7 @@ impl Desk {
 
     /// Turns the block of a ticket in stage Check into a REQUEST SENSE and puts it before the start ring. A signal of
     /// the reaper becomes due.
-    #[tactic(auto, using(crate::proofs::Index::index_stays, crate::proofs::Index::kept_stays, crate::proofs::Stages::tries_at_most))]
+    #[tactic(auto, using(crate::proofs::Index::index_stays, crate::proofs::Stages::tries_at_most))]
     pub fn sense(&mut self, words: &mut Words, t: u32)
         requires memory { length words.old ≡ 0x400000 }
         requires there { t < length self.old.tickets }
@@ -582,29 +444,6 @@ impl Desk {
         let k = &mut self.tickets[t as usize];
         unlink(words, k.unit, k.tag);
         k.stage = Stage::Unlinked;
-    }
-
-    /// Frees a ticket that was unlinked, and makes its report. Its chunks go back in their order, and its block and its
-    /// tag are free again. Memory stays.
-    pub fn free(&mut self, words: &Words, t: u32) -> Report
-        requires memory { length words.now ≡ 0x400000 }
-        requires there { t < length self.old.tickets }
-        requires unlinked { (ticket self.old t).stage ≡ Unlinked }
-        ensures desk { Frees self.old t self.new }
-        ensures report { result ≡ report_at self.old words.now t }
-    {
-        let k = &mut self.tickets[t as usize];
-        let place = ((k.block - BLOCKS) / BLOCK_BYTES) as usize;
-        let room = match self.rooms[place].take() {
-            Some(room) => room,
-            None => unreachable!(),
-        };
-        let report = report_of(words, t, k, room);
-        give_all(&mut self.region, k.pieces.as_slice());
-        self.by_block[place] = None;
-        self.by_tag[256 * k.unit as usize + k.tag as usize] = None;
-        k.stage = Stage::Freed;
-        report
     }
 
     /// Ends a ticket that a reset has swept: it is Queued or Sensing.
