@@ -1,9 +1,9 @@
 pub mod TicketLaws
 pub mod Stages
-pub mod Waiting
+pub mod StartRing
 pub mod Tails
 pub mod Sweeps
-pub mod Fixing
+pub mod Fixes
 pub mod Replays
 pub mod Growth
 pub mod Settled

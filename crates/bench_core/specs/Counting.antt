@@ -1,4 +1,4 @@
--- Lines that are settled, counted: they were refused, or their ticket is freed (own).
+-- Lines that are settled, counted: they were refused, or their ticket is freed (own). Lemmas speak of it; no public contract rests on it.
 use Rattle.std.specs.Prelude.{ℕ, ◌≤◌, Bool, true, false, not, List, length, sum, sum_by, count_by}
 use Rattle.desk_law.specs.declared.ticket.Ticket.{Ticket}
 use Rattle.desk_law.specs.Desk.{DeskState, lives}

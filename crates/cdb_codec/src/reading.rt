@@ -9,8 +9,8 @@ use crate::codes::{
 };
 use crate::commands::Cdb;
 
-/// How many bytes the descriptor block of this operation code has: 10 for 20h to 5Fh, 12 for A0h to
-/// BFh, and 6 otherwise. For the reserved groups 3 and 4 and the vendor's groups 6 and 7 this is own.
+/// How many bytes the descriptor block of this operation code has: 10 for 0x20 to 0x5F, 12 for 0xA0 to
+/// 0xBF, and 6 otherwise. For the reserved groups 3 and 4 and the vendor's groups 6 and 7 this is own.
 pub fn cdb_length(op: u8) -> u8
     ensures { result ≡ length_of op }
 {

@@ -38,7 +38,7 @@ pub struct Regs {
     pub sdid: u8,
     /// The first byte of a message or status.
     pub sfbr: u8,
-    /// 80h + the target that reselected.
+    /// 0x80 + the target that reselected.
     pub ssid: u8,
     /// Address of the table that offsets are counted from.
     pub dsa: u32,
@@ -219,7 +219,7 @@ impl Regs {
         }
     }
 
-    /// Reads the byte at a place of the table. CTEST2 gives 40h where SIGP was set, else 0, and clears SIGP; a read
+    /// Reads the byte at a place of the table. CTEST2 gives 0x40 where SIGP was set, else 0, and clears SIGP; a read
     /// of any other register changes nothing.
     pub fn read(&mut self, place: u8) -> u8
         requires { IsTrue (is_place place) }

@@ -1,6 +1,6 @@
 pub mod Once
-pub mod Following
+pub mod RelatedBuses
 pub mod Bytes
 pub mod Words
-pub mod Leaving
-pub mod Reading
+pub mod StepWrites
+pub mod StepReads

@@ -7,7 +7,7 @@ use Rattle.dma_buddy.specs.Chunks.{Apart}
 use Rattle.dma_buddy.specs.Regions.{Space, IsAmong, IsRegion, IsOut, IsNoneFor, Takes, TakesAll, RefusesAt, Gives, LiesInFree, LeavesOut, LeavesAllOut}
 use Rattle.dma_buddy.specs.Marks.{TakesOnto}
 use Rattle.dma_buddy.proofs.Intervals.{apart-sym}
-use Rattle.dma_buddy.proofs.Taking.{lay-before, given-back}
+use Rattle.dma_buddy.proofs.TakenChunks.{lay-before, given-back}
 
 pub onto-none : (s : Space) (front : List Chunk) → TakesOnto s [] front front s
 onto-none s front = record {

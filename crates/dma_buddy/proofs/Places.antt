@@ -11,7 +11,7 @@ use Rattle.dma_buddy.specs.Chunks.{IsSizeFor, IsChunk, side}
 use Rattle.dma_buddy.specs.Regions.{Space, IsAmong, IsChunkOf, IsBestFor}
 use Rattle.dma_buddy.specs.Marks.{listed, flag_at, space_of, IsShaped, IsPlaceOf, Adds, Drops}
 use Rattle.dma_buddy.proofs.Sizes.{Half, lower, upper, half, size-least}
-use Rattle.dma_buddy.proofs.Marking.{flag-means, adds, drops, place-is, size-pow, none-at-first, best-for, flag-within}
+use Rattle.dma_buddy.proofs.SizeFlags.{flag-means, adds, drops, place-is, size-pow, none-at-first, best-for, flag-within}
 
 -- ---- lower and upper halves
 

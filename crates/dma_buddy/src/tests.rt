@@ -94,7 +94,7 @@ const STEPS: [Step; 24] = [
     Step::Take(512, Some(0x1_0400)),
     Step::Take(500, Some(0x1_0600)),
     Step::Give(1, 64_000),
-    // 10200h and 10400h are neighbours, and no buddies
+    // 0x10200 and 0x10400 are neighbours, and no buddies
     Step::Give(1, 64_512),
     Step::Take(1_024, Some(0x1_0800)),
     Step::Take(513, Some(0x1_0c00)),
@@ -104,7 +104,7 @@ const STEPS: [Step; 24] = [
     Step::Take(8_193, Some(0x1_4000)),
     Step::Give(4, 13_312),
     Step::Give(0, 13_824),
-    // 10600h is merged twice: with 10400h, and then with 10000h
+    // 0x10600 is merged twice: with 0x10400, and then with 0x10000
     Step::Give(0, 14_336),
     Step::Take(2_048, Some(0x1_0000)),
     Step::Give(4, 14_336),

@@ -1,6 +1,6 @@
 pub mod Index
 pub mod Opening
-pub mod Remaining
+pub mod DataPointers
 pub mod Segments
 pub mod Slots
 pub mod Stages

@@ -38,7 +38,7 @@ pub record IsCommandBlock (a : ℕ) : Type 0 where
   pub below : a < 0x30000
   pub aligned : a % 0x200 ≡ 0
 
--- one of the 260 block places: a command block, or one of the blocks at 1200, 1400, 1600 and 1800
+-- one of the 260 block places: a command block, or one of the blocks at 0x1200, 0x1400, 0x1600 and 0x1800
 pub record IsBlockPlace (a : ℕ) : Type 0 where
   pub from : 0x1200 ≤ a
   pub gap : (a ≤ 0x1800) ⊎ (0x10000 ≤ a)

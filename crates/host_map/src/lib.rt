@@ -27,7 +27,7 @@ pub const DONEP: u32 = 0x1008;
 pub const CUR: u32 = 0x100c;
 /// The byte that a message is read into.
 pub const MSGIN: u32 = 0x1010;
-/// The message ABORT TAG, 0D, in the lowest byte.
+/// The message ABORT TAG, 0x0D, in the lowest byte.
 pub const ABORT_TAG: u32 = 0x1014;
 /// Holds the address of OVER in the script.
 pub const OVER_ADDRESS: u32 = 0x1018;

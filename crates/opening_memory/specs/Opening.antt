@@ -28,7 +28,7 @@ control_table =
     (FRONT_IDLE_ADDRESS, FRONT_IDLE) ∷ []
 
 -- The blocks that no command has: an idle slot leads to WAITR, a tag without a task to BADTASK, an idle FRONT to RING, and
--- the job to RESETJOB, with the message BUS DEVICE RESET (SCSI-2), 0C.
+-- the job to RESETJOB, with the message BUS DEVICE RESET (SCSI-2), 0x0C.
 abbrev pub fixed_table : List (ℕ × ℕ)
 fixed_table =
     (IDLE + offset Start, label_of label.Waitr) ∷

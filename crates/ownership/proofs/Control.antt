@@ -13,8 +13,8 @@ use Rattle.chip_step.specs.Event.{Event}
 use Rattle.chip_step.specs.Addresses.{address_of, place_of}
 use Rattle.chip_step.specs.Chip.{Chip}
 use Rattle.chip_rows.specs.Touched.{Range, IsIn, Block, block_of, entry_of, came, went, untaken, is_in, range, range_at, of_block, writes, reads, fetches}
-use Rattle.chip_rows.proofs.Leaving.{writes_within, counts_down}
-use Rattle.chip_rows.proofs.Reading as reading
+use Rattle.chip_rows.proofs.StepWrites.{writes_within, counts_down}
+use Rattle.chip_rows.proofs.StepReads as reading
 use Rattle.driver_script.specs.declared.script.TheConstants.{SCRIPT}
 use Rattle.driver_script.specs.Moves.{data_move}
 use Rattle.driver_script.specs.Script.{instruction}

@@ -10,7 +10,7 @@ use Rattle.chip_step.specs.Addresses.{address_of}
 use Rattle.chip_step.specs.Chip.{Chip}
 use Rattle.chip_rows.specs.Touched.{Range, IsIn, Block, block_of, came, is_in, range, range_at, of_block, writes}
 use Rattle.chip_rows.specs.Leaving.{ChangesWithin}
-use Rattle.chip_rows.proofs.Leaving.{writes_within}
+use Rattle.chip_rows.proofs.StepWrites.{writes_within}
 use Rattle.driver_script.specs.Script.{instruction}
 use Rattle.ownership.specs.Footprint.{Place, Nowhere, Fixed, Entry, ranges}
 use Rattle.ownership.specs.Steps.{WritesOnly}

@@ -1,4 +1,4 @@
--- START and RING, 000 to 018 and 020 to 040.
+-- START and RING, 0x000 to 0x018 and 0x020 to 0x040.
 use Rattle.std.proofs.Common.{◌≡◌, ℕ, pos, suc, ◌+◌, ◌*◌, ◌<◌, List, length, refl, sym, ap, subst, ◌∙◌, arith, lit<, nat_eq, false}
 use Rattle.std.specs.Prelude.{if◌then◌else◌}
 use Rattle.bench_words.specs.Bytes.{IsBytes}
@@ -12,7 +12,7 @@ use Rattle.chip_step.specs.Event.{Event}
 use Rattle.chip_step.specs.Chip.{Chip, Becomes}
 use Rattle.chip_step.specs.Step.{ChipStep, after_fetch}
 use Rattle.chip_step.specs.declared.outcome.StepEnd.{StepEnd}
-use Rattle.chip_rows.proofs.Leaving.{runs_on}
+use Rattle.chip_rows.proofs.StepWrites.{runs_on}
 use Rattle.driver_script.specs.Script.{instruction, IsLoaded}
 use Rattle.ownership.specs.Standing.{StandsAt}
 use Rattle.ownership.specs.Start.{EntersFront, EntersRing}

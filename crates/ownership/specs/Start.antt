@@ -21,14 +21,14 @@ pub record EntersBlock {B : Type 0} (block : ℕ) (old new : Chip B) : Type 0 wh
   pub dsa : new.regs.dsa ≡ block
   pub dsp : new.regs.dsp ≡ field_of old.memory block Start
 
--- four steps from 000 on come there, and SIGP is clear
+-- four steps from 0x000 on come there, and SIGP is clear
 abbrev pub EntersFront : {B : Type 0} → (B → Event → B → Type 0) → Type 0
 EntersFront {B} moves =
     (version : ℕ) (chip : ℕ → Chip B) (word : ℕ → ℕ) (end : ℕ → StepEnd) → StandsAt version 0 (chip 0) → IsBytes (chip 0).memory
     → IsHead (word_at (chip 0).memory FRONT) → ((i : ℕ) → i < 4 → ChipStep moves (word i) (chip i) (end i) (chip (i + 1)))
     → EntersBlock (word_at (chip 0).memory FRONT) (chip 0) (chip 4) × ((chip 4).regs.sigp ≡ false)
 
--- five steps from 020 on come to the block in the slot that RINGP names, with SCRATCHB at the next slot
+-- five steps from 0x020 on come to the block in the slot that RINGP names, with SCRATCHB at the next slot
 abbrev pub EntersRing : {B : Type 0} → (B → Event → B → Type 0) → Type 0
 EntersRing {B} moves =
     (version slot block : ℕ) (chip : ℕ → Chip B) (word : ℕ → ℕ) (end : ℕ → StepEnd) → StandsAt version 4 (chip 0) → IsBytes (chip 0).memory

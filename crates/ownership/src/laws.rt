@@ -50,10 +50,10 @@ pub fn script_transfers<B: Bus>()
     ensures interrupts { Interrupts B.moves }
 {}
 
-/// START: four steps from 000 on bring the chip to the address in START of the block that FRONT names, with DSA at this
-/// block and SIGP clear. RING: five steps from 020 on bring it to the block in the slot that RINGP names, with SCRATCHB
-/// at the next slot. Memory and the bus are as before. The slot, and the head of the block, lie in memory at multiples
-/// of 4.
+/// START: four steps from 0x000 on bring the chip to the address in START of the block that FRONT names, with DSA at
+/// this block and SIGP clear. RING: five steps from 0x020 on bring it to the block in the slot that RINGP names, with
+/// SCRATCHB at the next slot. Memory and the bus are as before. The slot, and the head of the block, lie in memory at
+/// multiples of 4.
 pub fn start_enters_blocks<B: Bus>()
     ensures front { EntersFront B.moves }
     ensures ring { EntersRing B.moves }

@@ -6,7 +6,7 @@ use scsi_words::Status::{self, Check, Good};
 use std::process::Abort;
 use std::test::Fail;
 
-/// Performs a command that is spelled in bytes; a write receives bytes A5h.
+/// Performs a command that is spelled in bytes; a write receives bytes 0xA5.
 fn run(rt: &impl Abort, unit: &mut Lun, cdb: &[u8], out: &mut [u8]) -> Answer {
     let block = [0xA5; 512];
     assert!(rt; cdb.len() > 0);

@@ -22,7 +22,7 @@ use Rattle.driver_script.specs.Script.{label_of}
 use Rattle.driver_script.specs.declared.labels.Name.TheVariants.{Tag}
 use Rattle.rig_types.specs.declared.rig.Unit.{Unit as RigUnit}
 use Rattle.rig_chains.specs.Chains.{has_target, is_at, targets, jump_if, target_ops, identify_ops, lun_jump, lun_jumps, lun_ops, unit_ops, put_op, put_ops, Spells}
-use Rattle.rig_chains.proofs.Laying.{targets-is, lun_jumps-is}
+use Rattle.rig_chains.proofs.LaidChains.{targets-is, lun_jumps-is}
 
 -- ---- instructions one behind the other
 

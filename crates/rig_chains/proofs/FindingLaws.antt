@@ -16,7 +16,7 @@ use Rattle.rig_types.specs.Ranges.{IsUnit}
 use Rattle.rig_types.specs.declared.rig.Unit.{Unit as RigUnit}
 use Rattle.rig_chains.specs.Chains.{has_target, is_at, jump_if, lun_jump}
 use Rattle.rig_chains.specs.Finding.{Exit, GoesTo, StopsWith, leads, unit_exit, FindsTargets, LeavesOutSeven, FindsLuns, FindsItself}
-use Rattle.rig_chains.proofs.Laying.{targets-is, lun_jumps-is}
+use Rattle.rig_chains.proofs.LaidChains.{targets-is, lun_jumps-is}
 
 -- ---- a run of jumps at rising numbers
 

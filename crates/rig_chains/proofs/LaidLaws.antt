@@ -9,7 +9,7 @@ use Rattle.host_map.specs.Places.{target_chain, unit_chain, table_at}
 use Rattle.rig_types.specs.declared.rig.Unit.{Unit as RigUnit}
 use Rattle.rig_chains.specs.Chains.{has_target, targets, target_ops, lun_ops, unit_ops, put_ops, with_target, with_unit, with_chains, Spells, IsLaid}
 use Rattle.rig_chains.specs.Keeping.{KeepsChains}
-use Rattle.rig_chains.proofs.Laying.{targets-is}
+use Rattle.rig_chains.proofs.LaidChains.{targets-is}
 use Rattle.rig_chains.proofs.ChainLaws.{length-put_ops, put_ops-clear, put_ops-spells, spells_kept, target_ops-plain, lun_ops-plain, unit_ops-plain, target_ops-most, lun_ops-most}
 use Rattle.rig_chains.proofs.Blocks.{KeepsBlocks, Rising, IsIn, LeftBy, rising_range, rising_filter, in_range, in_filter, length-fold, fold_before, fold_behind, fold_at}
 

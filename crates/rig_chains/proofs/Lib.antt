@@ -2,4 +2,4 @@ pub mod Blocks
 pub mod ChainLaws
 pub mod FindingLaws
 pub mod LaidLaws
-pub mod Laying
+pub mod LaidChains

@@ -32,11 +32,11 @@ targets us = filter (has_target us) (range_with_len 0 8)
 abbrev pub jump_if : ℕ → ℕ → Op
 jump_if value address = Jump (Byte false 0 value) address
 
--- the chain at CHAINS; a target that isn't in the rig stops the chip with vector 0A
+-- the chain at CHAINS; a target that isn't in the rig stops the chip with vector 0x0A
 abbrev pub target_ops : List Unit → List Op
 target_ops us = map (λ (t : ℕ). jump_if t (target_chain t)) (targets us) ++ Int Always 0x0A ∷ []
 
--- MOVE 1, MSGIN, WHEN MSG_IN; INT 8, IF NOT 80 AND MASK 7F; MOVE SFBR & 07 TO SFBR: the LUN of IDENTIFY
+-- MOVE 1, MSGIN, WHEN MSG_IN; INT 8, IF NOT 0x80 AND MASK 0x7F; MOVE SFBR & 0x07 TO SFBR: the LUN of IDENTIFY
 abbrev pub identify_ops : List Op
 identify_ops = Move 1 MSGIN 7 ∷ Int (Byte true 0x7F 0x80) 8 ∷ ToSfbr 0x08 And 0x07 ∷ []
 

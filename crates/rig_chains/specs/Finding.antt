@@ -39,11 +39,11 @@ unit_exit None = StopsWith 9
 
 -- ---- laws
 
--- each of the eight targets that a bus may name leads to its chain, and without a unit to vector 0A
+-- each of the eight targets that a bus may name leads to its chain, and without a unit to vector 0x0A
 abbrev pub FindsTargets : Type 0
 FindsTargets = (us : List Unit) (t : ℕ) → t < 8 → leads (target_ops us) t ≡ Some (target_exit us t)
 
--- no unit of a rig has target 7, which leads to vector 0A
+-- no unit of a rig has target 7, which leads to vector 0x0A
 abbrev pub LeavesOutSeven : Type 0
 LeavesOutSeven = (version : ℕ) (us : List Unit) → All (IsUnit version) us → leads (target_ops us) 7 ≡ Some (StopsWith 0x0A)
 

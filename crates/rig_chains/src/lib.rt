@@ -207,7 +207,7 @@ fn lay_unit(words: &mut Words, unit: u8)
 }
 
 /// Lays the chains of a rig, whose units these are, at most 16, each with its number in the rig. Memory has 4 MiB; the
-/// words of the chains lie from 8000 to 8FFF, and all other words stay. Takes no memory.
+/// words of the chains lie from 0x8000 to 0x8FFF, and all other words stay. Takes no memory.
 pub fn lay_chains(words: &mut Words, units: &[Unit])
     requires memory { length words.old ≡ 0x400000 }
     requires units { length units.now ≤ 16 }

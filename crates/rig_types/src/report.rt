@@ -30,7 +30,7 @@ pub struct Report {
     pub unit: u8,
     /// How it ended.
     pub outcome: Outcome,
-    /// The status byte of SCSI-2; FFh for every outcome but Done.
+    /// The status byte of SCSI-2; 0xFF for every outcome but Done.
     pub status: u8,
     /// The bytes of the buffer that were not used; its whole length for every outcome but Done.
     pub residual: u32,

@@ -1,4 +1,4 @@
--- Data stay in their buffers: a step of the chip touches a data place only in a data move of a live ticket, whose own it is (own).
+-- Data stay in their buffers: a step of the chip touches a data place only in a data move of a live ticket, whose own it is (own). No contract rests on it yet.
 use Rattle.std.specs.Prelude.{◌≡◌, ℕ, ◌+◌, ◌<◌, ◌≤◌, if◌then◌else◌, is_some, true, List, Some, Contains, ◌⊎◌}
 use Rattle.std.specs.List.{range_with_len}
 use Rattle.scripts_ops.specs.declared.values.Op.{Op}

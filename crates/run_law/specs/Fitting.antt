@@ -1,4 +1,4 @@
--- Every report of a run fits the log of its unit: the statement over all runs (own).
+-- Every report of a run fits the log of its unit: the statement over all runs (own). No contract rests on it yet.
 use Rattle.std.specs.Prelude.{ℕ, List, [], unwrap_or}
 use Rattle.std.specs.List.{All}
 use Rattle.scsi_words.specs.declared.phases.kinds.Direction.TheVariants.{None as NoData}

@@ -13,4 +13,4 @@ pub mod Resets
 pub mod Tells
 pub mod Choices
 pub mod DistinctTags
-pub mod Leaving
+pub mod Disconnects

@@ -24,8 +24,8 @@ const LAST_SEGMENT: u8 = 15;
 /// REQUEST SENSE of 18 bytes (SCSI-2, 8.2.14).
 const REQUEST_SENSE: [u8; 6] = [0x03, 0, 0, 0, 0x12, 0];
 
-/// Turns `block` into a REQUEST SENSE: START is SENSE, STATE 0, STATUS FFh, and the command descriptor block
-/// 03 00 00 00 12 00. Segment 15 is the sense area, and both data pointers denote its 18 bytes. All other words stay.
+/// Turns `block` into a REQUEST SENSE: START is SENSE, STATE 0, STATUS 0xFF, and the command descriptor block
+/// 0x03, 0, 0, 0, 0x12, 0. Segment 15 is the sense area, and both data pointers denote its 18 bytes. Other words stay.
 pub fn turn(words: &mut Words, block: u32)
     requires memory { length words.old ≡ 0x400000 }
     requires block { IsCommandBlock block }

@@ -1,7 +1,7 @@
-pub mod Staying
-pub mod Turning
-pub mod Counting
+pub mod BusInvariant
+pub mod ConnectedTurns
+pub mod CandidateCounts
 pub mod Selections
 pub mod Openings
 pub mod Resets
-pub mod Stepping
+pub mod BusSteps

@@ -15,8 +15,8 @@ use Rattle.bus_law.specs.Laws.{OneConnected}
 use Rattle.bus_law.proofs.OneConnected.{stays_connected}
 use Rattle.target_bus.specs.Fields.{bus_of, IsHeldBus}
 use Rattle.target_bus.specs.Candidates.{IsOfUnit}
-use Rattle.target_bus.proofs.Staying.{quiet, read-is}
-use Rattle.target_bus.proofs.Counting.{count-past}
+use Rattle.target_bus.proofs.BusInvariant.{quiet, read-is}
+use Rattle.target_bus.proofs.CandidateCounts.{count-past}
 
 not-some : (id : ℕ) → None ≡ Some id → ⊥
 not-some id e = absurd cc

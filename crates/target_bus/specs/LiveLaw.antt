@@ -6,7 +6,7 @@ use Rattle.chip_step.specs.Laws.{Signals, IsLawful}
 use Rattle.chip_step.specs.declared.scsi_bus.Settled.TheVariants.{Selected, Reselected, TimedOut}
 use Rattle.target_law.specs.declared.nexus.Nexus.{Nexus}
 use Rattle.bus_law.specs.Bus.{BusState, signals_of}
-use Rattle.bus_law.proofs.Keeping as keeping
+use Rattle.bus_law.proofs.BusLaws as keeping
 use Rattle.target_bus.specs.Live.{MovesWith}
 use Rattle.target_bus.specs.declared.live_bus.LiveBus.{LiveBus}
 

@@ -10,7 +10,7 @@ use Rattle.target_law.specs.declared.moves.Move.TheVariants as move
 use Rattle.target_law.specs.declared.task_phase.TaskPhase.TheVariants.{DataIn}
 use Rattle.target_law.specs.Session.{Task, Session, remaining, Can, CanGo, acted, gone, phased, looked, looked_by, moves}
 use Rattle.target_law.specs.Sound.{IsSound, IsWaiting}
-use Rattle.unit_task.proofs.Keeping.{marked-sound, looked-sound}
+use Rattle.unit_task.proofs.SoundTasks.{marked-sound, looked-sound}
 use Rattle.unit_task.proofs.Ends.{others-looked}
 
 -- a data phase of a command that sends

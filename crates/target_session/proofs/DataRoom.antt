@@ -4,7 +4,7 @@ use Rattle.unit_core.specs.declared.Core.{Core}
 use Rattle.target_law.specs.declared.task_phase.TaskPhase.TheVariants.{DataOut}
 use Rattle.target_law.specs.Bytes.{Connection}
 use Rattle.target_law.specs.Sound.{IsSound, IsReceiving}
-use Rattle.unit_task.proofs.Keeping.{total-most}
+use Rattle.unit_task.proofs.SoundTasks.{total-most}
 use Rattle.target_session.specs.Sessions.{session_of}
 
 pub receiving-room : (core : Core) (c : Connection) (n : ℕ) → IsSound (session_of core c) → c.shows ≡ DataOut n → c.task.position < 65536

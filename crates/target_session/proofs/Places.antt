@@ -8,7 +8,7 @@ use Rattle.target_law.specs.declared.moves.Move.TheVariants.{Go, Busy, QueueFull
 use Rattle.target_law.specs.Session.{Session, remaining, Can, CanRefuse}
 use Rattle.target_law.specs.Choice.{Names, offers, offered, index, can_go, can_refuse, can_spend, go_bytes}
 use Rattle.target_law.specs.Sound.{IsSound}
-use Rattle.unit_task.proofs.Keeping.{total-most}
+use Rattle.unit_task.proofs.SoundTasks.{total-most}
 use Rattle.target_session.specs.Words.{place_of, low_of}
 
 -- a move stands in the list where its kind is lawful

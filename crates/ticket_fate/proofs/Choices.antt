@@ -18,7 +18,7 @@ use Rattle.target_law.specs.Session.{Task, Session, remaining, acted, gone, phas
 use Rattle.target_law.specs.Sound.{HasMoved, IsSoundTask}
 use Rattle.ticket_fate.specs.Tickets.{Plan, unit_of, opening, view_for}
 use Rattle.ticket_fate.specs.Senses.{Unasked}
-use Rattle.ticket_fate.proofs.Asking.{unasked-entry}
+use Rattle.ticket_fate.proofs.SenseLives.{unasked-entry}
 use Rattle.ticket_fate.specs.Fates.{HasTask}
 use Rattle.ticket_fate.proofs.Views.{Grows}
 use Rattle.ticket_fate.proofs.TicketSteps.{held-none}

@@ -26,7 +26,7 @@ use Rattle.ticket_fate.specs.Tickets.{Plan, unit_of, opening, Connected, Rejecte
 use Rattle.ticket_fate.specs.Fates.{HasTask, TicketKept}
 use Rattle.ticket_fate.proofs.Views.{Grows}
 use Rattle.ticket_fate.proofs.TicketSteps.{held-none, fate_at, sense_at, needs}
-use Rattle.ticket_fate.proofs.Asking.{unasked-entry}
+use Rattle.ticket_fate.proofs.SenseLives.{unasked-entry}
 use Rattle.ticket_fate.proofs.ReceivedBytes.{perform-same, perform-checked, dropped-same}
 
 -- where a command needs no bytes, its way doesn't matter

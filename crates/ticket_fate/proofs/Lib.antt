@@ -1,5 +1,5 @@
 pub mod Views
-pub mod Asking
+pub mod SenseLives
 pub mod TicketSteps
 pub mod SenseSteps
 pub mod ReceivedBytes

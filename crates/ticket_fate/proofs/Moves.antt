@@ -31,7 +31,7 @@ use Rattle.ticket_fate.specs.Senses.{Unasked, SenseOfReportFits, AsksTask}
 use Rattle.ticket_fate.specs.Linked.{IsPlan, UnitKept, IsAtWork, IsAsking, WorkKept, LinkKept, TargetKept, ResetCause, ByBus, ByDevice, reset_tickets, reset_ticket, log_of, front_life, lost_life}
 use Rattle.ticket_fate.specs.Moves.{CompletesTicket, parts_ticket, TicketMove, builds, links, queues, requeues, selects, times_out, cancels, takes_again, takes_refused, takes, takes_checked, asks, ask_selects, takes_sense, sweeps_asking, selects_rogue, strays, ends_rogue, sweeps, unlinks, frees, IsIdle, MayLink, target_of, pointed_ticket, marked_ticket, Moves, alone, points, marks, relinks, acts, sends, receives, hears, listens, leaves_bus, completes, drops_task, reselects, begins, ask_sends, ask_completes, ask_begins, resets_idle, resets_work, resets_asking}
 use Rattle.ticket_fate.specs.Kept.{AtLink, AllKept}
-use Rattle.ticket_fate.proofs.Asking.{silent-lost}
+use Rattle.ticket_fate.proofs.SenseLives.{silent-lost}
 use Rattle.ticket_fate.proofs.SenseSteps.{taken-kept, checked-kept, asks-kept, ask-selected-kept, sense-taken-kept, asking-swept-kept, rogue-selected-kept, strayed-kept, rogue-ended-kept}
 use Rattle.ticket_fate.proofs.SenseTasks.{ask-acted, ask-sent, ask-completed, ask-begun, asking-reset}
 use Rattle.ticket_fate.proofs.TicketSteps.{fate_at, sense_at, built-kept, linked-kept, queued-kept, again-kept, selected-kept, absent-kept, cancelled-kept, requeue-kept, refused-kept}

@@ -27,14 +27,14 @@ use Rattle.ticket_fate.specs.Senses.{Unasked, ToAsk, HasAsked, SenseOfReportFits
 use Rattle.ticket_fate.specs.Linked.{IsPlan, HasTaskOf, HasNoTaskOf, AwayTasks, UnitKept, UnitsKept, TargetKept, WorkKept, LinkKept, ResetCause, ByBus, ByDevice, CanReset, lost_life, flagged, lost_ticket, reset_ticket, log_in, log_of, reset_tickets}
 use Rattle.ticket_fate.proofs.Views.{grows-view, view-is}
 use Rattle.ticket_fate.proofs.TicketSteps.{fate_at, sense_at, needs, held-none}
-use Rattle.ticket_fate.proofs.Asking.{unasked-entry}
+use Rattle.ticket_fate.proofs.SenseLives.{unasked-entry}
 use Rattle.ticket_fate.proofs.ReceivedBytes.{dropped-same}
 use Rattle.ticket_fate.proofs.DataBytes.{pointed}
 use Rattle.ticket_fate.proofs.LastEntries.{drop-loss}
 use Rattle.ticket_fate.proofs.TaskLists.{lists-leave}
 use Rattle.ticket_fate.proofs.Targets.{at-lun, at, kept, runs, unit-same, unit-other}
 use Rattle.ticket_fate.proofs.TaskEnds.{frees}
-use Rattle.unit_task.proofs.Keeping.{away-waits}
+use Rattle.unit_task.proofs.SoundTasks.{away-waits}
 
 -- the drops of others change no view
 drop-view : (g : Plan) (x : ℕ) (b : Bool) (u : LogicalUnit) (k : Task) → (k.ticket ≡ x → ⊥) → view_for g x (drops_by b u k).log ≡ view_for g x u.log

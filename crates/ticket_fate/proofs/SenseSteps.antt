@@ -13,7 +13,7 @@ use Rattle.ticket_fate.specs.Tickets.{Plan, unit_of, setting, Waits, Finished, C
 use Rattle.ticket_fate.specs.Senses.{Unasked, SenseOfReportFits, SenseFate}
 use Rattle.ticket_fate.specs.Fates.{ReportFits, Fate, TicketKept}
 use Rattle.ticket_fate.specs.Moves.{IsToAsk}
-use Rattle.ticket_fate.proofs.Asking.{silent, silent-lost, silent-reset, taken-asked}
+use Rattle.ticket_fate.proofs.SenseLives.{silent, silent-lost, silent-reset, taken-asked}
 use Rattle.ticket_fate.proofs.TicketSteps.{fate_at, sense_at}
 
 check-only : (s : Status) → status_code s ≡ status_code Check → s ≡ Check

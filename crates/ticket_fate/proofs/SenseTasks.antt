@@ -21,7 +21,7 @@ use Rattle.target_law.specs.Bytes.{Connection, one_less, advanced, put, byte_by,
 use Rattle.target_law.specs.Sound.{IsSound, IsWaiting, IsWorth, Ends}
 use Rattle.target_law.specs.Target.{LogicalUnit, BusFree, TaskConnected, Target, unit_at, with_unit, linked, session, goes_on, ends, leaves, parted, unit_left, unit_after, connection_after, unit_reset, slot_reset, target_reset}
 use Rattle.target_law.specs.Calls.{target_acted, acted_by, has_ended, has_tag, begun}
-use Rattle.unit_task.proofs.Keeping.{began-waits}
+use Rattle.unit_task.proofs.SoundTasks.{began-waits}
 use Rattle.unit_task.proofs.Ends.{others-ended}
 use Rattle.target_session.proofs.Acts.{acted-sound}
 use Rattle.target_session.proofs.Closes.{closed-as}
@@ -30,7 +30,7 @@ use Rattle.ticket_fate.specs.Senses.{AsksTask, SenseFate}
 use Rattle.ticket_fate.specs.Fates.{Fate, TicketKept}
 use Rattle.ticket_fate.specs.Linked.{IsPlan, UnitKept, HasAnswer, ShownBySense, IsAsking, WorkKept, LinkKept, TargetKept, ByBus, reset_tickets}
 use Rattle.ticket_fate.proofs.TicketSteps.{fate_at, sense_at}
-use Rattle.ticket_fate.proofs.Asking.{AsksOn, asks-on, asks-sent, sense-closes, frozen-sensed}
+use Rattle.ticket_fate.proofs.SenseLives.{AsksOn, asks-on, asks-sent, sense-closes, frozen-sensed}
 use Rattle.ticket_fate.proofs.SenseDrops.{reset-with-sense}
 use Rattle.ticket_fate.proofs.SoundSessions.{sent-sound}
 use Rattle.ticket_fate.proofs.TaskLists.{lists-other}

@@ -22,7 +22,7 @@ use Rattle.target_law.specs.Bytes.{Connection, away}
 use Rattle.target_law.specs.Sound.{IsSound, IsWaiting, IsWorth, Ends}
 use Rattle.target_law.specs.Target.{LogicalUnit, BusFree, TaskConnected, Target, unit_at, with_unit, linked, session, ends, leaves, unit_left, unit_after, drops, drops_by}
 use Rattle.target_law.specs.Calls.{task_reselected, has_tag, has_ended, begun}
-use Rattle.unit_task.proofs.Keeping.{away-waits, began-waits}
+use Rattle.unit_task.proofs.SoundTasks.{away-waits, began-waits}
 use Rattle.unit_task.proofs.Ends.{others-ended}
 use Rattle.unit_task.proofs.Readiness.{ready-dropped, waiting-stays}
 use Rattle.target_session.proofs.Closes.{closed-as}
@@ -32,7 +32,7 @@ use Rattle.ticket_fate.specs.Fates.{HasTask}
 use Rattle.ticket_fate.specs.Moves.{CompletesTicket}
 use Rattle.ticket_fate.specs.Linked.{IsPlan, AwayTasks, WaitingTasks, UnitKept, ShownFits, VerdictFits, IsAtWork, WorkKept, TargetKept}
 use Rattle.ticket_fate.proofs.TicketSteps.{fate_at, sense_at, needs, held-none}
-use Rattle.ticket_fate.proofs.Asking.{unasked-entry}
+use Rattle.ticket_fate.proofs.SenseLives.{unasked-entry}
 use Rattle.ticket_fate.proofs.DataBytes.{pointed}
 use Rattle.ticket_fate.proofs.TaskLists.{lists-other, lists-leave, lists-reselect, away-at}
 use Rattle.ticket_fate.proofs.LastEntries.{Closes, ends as closes-end, rejects as closes-rejected, drop-loss, drop-plain}

@@ -15,7 +15,7 @@ use Rattle.unit_law.proofs.Views.{ne-test}
 use Rattle.logs_have_room.specs.Room.{entries}
 use Rattle.ticket_fate.specs.Tickets.{Plan, unit_of, Life, Unbuilt, Built, Linked, ToRequeue, Waits, Selected, Rejected, Finished, Ended, Ticket, with_life, report_of, view_for, built_ticket, queued_ticket}
 use Rattle.ticket_fate.specs.Senses.{Unasked, SenseFate}
-use Rattle.ticket_fate.proofs.Asking.{silent-lost}
+use Rattle.ticket_fate.proofs.SenseLives.{silent-lost}
 use Rattle.ticket_fate.specs.Fates.{OnlyRefusals, Queued, AllRefused, Fate, TicketKept, NeedsNone}
 
 pub fate_at : (g : Plan) (t : ℕ) (k : Ticket) (log : List LogEntry) (l : Life) → TicketKept g t k log → k.life ≡ l → Fate g t l k (view_for g t log)

@@ -1,4 +1,4 @@
--- What holds of all tickets and all targets together: each target is kept, and each connected ticket is the one that its target's link names.
+-- What holds of all tickets and all targets together: each target is kept, and each connected ticket is the one that its target's link names. No public contract rests on it; lemmas do.
 -- Source: own.
 use Rattle.std.specs.Prelude.{◌≡◌, ℕ}
 use Rattle.target_law.specs.Target.{ConnectionState, TaskConnected, Target}

@@ -1,4 +1,4 @@
 pub mod Readiness
-pub mod Keeping
+pub mod SoundTasks
 pub mod Ends
 pub mod Received

@@ -19,11 +19,11 @@ use Rattle.word_owners.specs.Works.{Role, Asked, role, Plays}
 use Rattle.word_owners.specs.Holds.{Linked, closing_at, work_at, link_at}
 use Rattle.word_owners.specs.Laws.{JobHolds}
 use Rattle.word_owners.proofs.Frames.{active-live, not_starting-frame, not_entered-frame}
-use Rattle.word_owners.proofs.Turning.{worker-active}
-use Rattle.word_owners.proofs.Changing.{Spares, parts-spared, tags-frame}
-use Rattle.word_owners.proofs.Moving.{Onward, work-onward}
-use Rattle.word_owners.proofs.Staying.{entries-at, stays-same}
-use Rattle.word_owners.proofs.Resetting.{parts-front, onward-front, tags-front}
+use Rattle.word_owners.proofs.StageChanges.{worker-active}
+use Rattle.word_owners.proofs.WriteFrames.{Spares, parts-spared, tags-frame}
+use Rattle.word_owners.proofs.ChipWork.{Onward, work-onward}
+use Rattle.word_owners.proofs.ChipPlace.{entries-at, stays-same}
+use Rattle.word_owners.proofs.FrontWrites.{parts-front, onward-front, tags-front}
 use Rattle.word_owners.proofs.Patches.{few}
 
 -- the target of the job was written

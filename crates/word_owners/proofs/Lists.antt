@@ -9,7 +9,7 @@ use Rattle.desk_law.specs.Desk.{DeskState, ticket, with_ticket, no_ticket}
 use Rattle.desk_law.specs.Blocks.{own, begins_at}
 use Rattle.word_owners.specs.Tickets.{Fixed, is_check, fixed_of, tickets_of, IsAskedFor, AreChecked}
 use Rattle.word_owners.proofs.Frames.{same_or}
-use Rattle.word_owners.proofs.Turning.{Turns, staged}
+use Rattle.word_owners.proofs.StageChanges.{Turns, staged}
 
 abbrev at : List Ticket → ℕ → Ticket
 at ks t = slice_index_or ks t no_ticket

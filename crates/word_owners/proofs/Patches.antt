@@ -26,11 +26,11 @@ use Rattle.word_owners.specs.Holds.{Spot, Holds, closing_at, work_at}
 use Rattle.word_owners.specs.Laws.{SignalHolds, LinkHolds, UnlinkHolds}
 use Rattle.host_map.specs.Places.{start_slot}
 use Rattle.word_owners.proofs.Frames.{same_or, active-live, fixed-frame, not_starting-frame, not_entered-frame}
-use Rattle.word_owners.proofs.Turning.{Turns, staged, aside, Fits, parts-turned, tickets-turned, work-turned, worker-active}
-use Rattle.word_owners.proofs.Changing.{Spares, parts-spared}
-use Rattle.word_owners.proofs.Moving.{Onward, work-onward}
+use Rattle.word_owners.proofs.StageChanges.{Turns, staged, aside, Fits, parts-turned, tickets-turned, work-turned, worker-active}
+use Rattle.word_owners.proofs.WriteFrames.{Spares, parts-spared}
+use Rattle.word_owners.proofs.ChipWork.{Onward, work-onward}
 use Rattle.word_owners.proofs.Lists.{desk-turns, desk-staged, desk-checked, same-fixed}
-use Rattle.word_owners.proofs.Staying.{Patch, patched, quiet_holds, entries-at, unasked-same, closing-worker}
+use Rattle.word_owners.proofs.ChipPlace.{Patch, patched, quiet_holds, entries-at, unasked-same, closing-worker}
 
 -- ---- Signal
 

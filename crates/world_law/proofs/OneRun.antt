@@ -3,7 +3,7 @@ use Rattle.std.proofs.Common.{◌≡◌, ℕ, List, [], ◌∷◌, refl, sym, ap
 use Rattle.chip_step.specs.Chip.{Chip}
 use Rattle.chip_step.specs.declared.outcome.StepEnd.{StepEnd}
 use Rattle.bus_law.specs.Bus.{BusState}
-use Rattle.bus_law.proofs.Answering.{steps_once}
+use Rattle.bus_law.proofs.OneAnswer.{steps_once}
 use Rattle.rig_types.specs.declared.step.Step.{Step}
 use Rattle.rig_types.specs.declared.step.Step.TheVariants as step
 use Rattle.rig_types.specs.declared.step.Entry.{Entry}
@@ -19,7 +19,7 @@ use Rattle.world_law.specs.ChipSteps.{chip_of, after_chip, reply_for, RunsChip}
 use Rattle.world_law.specs.Steps.{Does}
 use Rattle.world_law.specs.Runs.{Moment, Steps, IsRun, entries, IsLawful}
 use Rattle.world_law.specs.Traces.{TraceEntry, caller_told, trace_entry, trace}
-use Rattle.world_law.proofs.Patching.{once}
+use Rattle.world_law.proofs.DriverSteps.{once}
 
 -- ---- one step
 

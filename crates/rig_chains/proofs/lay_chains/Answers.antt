@@ -3,7 +3,7 @@ use Rattle.std.specs.List.{range_with_len}
 use Rattle.std.proofs.lemmas.List.Sums.{fold_push}
 use Rattle.host_map.specs.declared.TheConstants.{CHAINS}
 use Rattle.rig_chains.specs.Chains.{has_target, target_ops, targets, put_ops, with_target, with_unit, with_chains}
-use Rattle.rig_chains.proofs.Laying.{range_to_more, targets-is, targets_to, targets_to-yes, targets_to-no}
+use Rattle.rig_chains.proofs.LaidChains.{range_to_more, targets-is, targets_to, targets_to-yes, targets_to-no}
 use Rattle.rig_chains.proofs.LaidLaws.{chains_laid, chains_within}
 use Rattle.rig_chains.proofs.lay_chains.Goals as goal
 use Rattle.rig_chains.proofs.lay_chains.Goals.{then-has_target, else-has_target}

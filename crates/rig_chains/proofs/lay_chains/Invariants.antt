@@ -2,7 +2,7 @@ use Rattle.std.proofs.Common.{◌≡◌, fold, length}
 use Rattle.std.specs.List.{range_with_len}
 use Rattle.host_map.specs.declared.TheConstants.{CHAINS}
 use Rattle.rig_chains.specs.Chains.{target_ops, targets, put_ops, with_target, with_unit}
-use Rattle.rig_chains.proofs.Laying.{targets_to}
+use Rattle.rig_chains.proofs.LaidChains.{targets_to}
 use Rattle.rig_chains.proofs.lay_chains.Given as goal
 
 abbrev pub invariant-loop-id : goal.invariant-loop-id

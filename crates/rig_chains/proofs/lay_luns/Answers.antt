@@ -5,7 +5,7 @@ use Rattle.scripts_ops.specs.declared.values.Op.{Op}
 use Rattle.scripts_ops.specs.declared.values.Op.TheVariants.{Int}
 use Rattle.scripts_ops.specs.declared.values.Condition.TheVariants.{Always}
 use Rattle.rig_chains.specs.Chains.{is_at, jump_if, identify_ops, lun_jumps, put_ops}
-use Rattle.rig_chains.proofs.Laying.{put_ops-more, jump_more, luns_to, lun_jumps-is, luns_to-yes, luns_to-no}
+use Rattle.rig_chains.proofs.LaidChains.{put_ops-more, jump_more, luns_to, lun_jumps-is, luns_to-yes, luns_to-no}
 use Rattle.rig_chains.proofs.lay_luns.Goals as goal
 use Rattle.rig_chains.proofs.lay_luns.Goals.{in-Some, in_default}
 

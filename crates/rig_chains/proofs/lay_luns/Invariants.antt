@@ -1,7 +1,7 @@
 use Rattle.std.proofs.Common.{◌≡◌, ◌++◌, ◌+◌, ◌*◌, ◌≤◌, length}
 use Rattle.host_map.specs.Places.{target_chain}
 use Rattle.rig_chains.specs.Chains.{identify_ops, put_ops}
-use Rattle.rig_chains.proofs.Laying.{luns_to}
+use Rattle.rig_chains.proofs.LaidChains.{luns_to}
 use Rattle.rig_chains.proofs.lay_luns.Given as goal
 
 abbrev pub invariant-loop-lun : goal.invariant-loop-lun

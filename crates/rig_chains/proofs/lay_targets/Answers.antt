@@ -5,7 +5,7 @@ use Rattle.scripts_ops.specs.declared.values.Op.{Op}
 use Rattle.scripts_ops.specs.declared.values.Op.TheVariants.{Int}
 use Rattle.scripts_ops.specs.declared.values.Condition.TheVariants.{Always}
 use Rattle.rig_chains.specs.Chains.{has_target, jump_if, targets, put_ops}
-use Rattle.rig_chains.proofs.Laying.{targets-is, put_ops-none, put_ops-more, jump_more, target_jumps, target_jumps-yes, target_jumps-no}
+use Rattle.rig_chains.proofs.LaidChains.{targets-is, put_ops-none, put_ops-more, jump_more, target_jumps, target_jumps-yes, target_jumps-no}
 use Rattle.rig_chains.proofs.lay_targets.Goals as goal
 use Rattle.rig_chains.proofs.lay_targets.Goals.{then-has_target, else-has_target}
 

@@ -1,7 +1,7 @@
 use Rattle.std.proofs.Common.{◌≡◌, ◌+◌, ◌*◌, ◌≤◌, length}
 use Rattle.host_map.specs.declared.TheConstants.{CHAINS}
 use Rattle.rig_chains.specs.Chains.{put_ops}
-use Rattle.rig_chains.proofs.Laying.{target_jumps}
+use Rattle.rig_chains.proofs.LaidChains.{target_jumps}
 use Rattle.rig_chains.proofs.lay_targets.Given as goal
 
 abbrev pub invariant-loop-target : goal.invariant-loop-target

@@ -1,4 +1,4 @@
-use Rattle.bus_law.proofs.Answering.{answers_once, steps_once}
+use Rattle.bus_law.proofs.OneAnswer.{answers_once, steps_once}
 use Rattle.bus_law.proofs.laws.answers_are_one.Goals as goal
 
 pub returns : goal.returns

@@ -1,4 +1,4 @@
-use Rattle.chip_rows.proofs.Leaving.{counts_down}
+use Rattle.chip_rows.proofs.StepWrites.{counts_down}
 use Rattle.chip_rows.proofs.laws.moves_count_down.Goals as goal
 
 pub returns : goal.returns

@@ -1,4 +1,4 @@
-use Rattle.chip_rows.proofs.Reading as law
+use Rattle.chip_rows.proofs.StepReads as law
 use Rattle.chip_rows.proofs.laws.reads_within.Goals as goal
 
 pub returns : goal.returns

@@ -1,4 +1,4 @@
-use Rattle.chip_rows.proofs.Following.{steps_follow}
+use Rattle.chip_rows.proofs.RelatedBuses.{steps_follow}
 use Rattle.chip_rows.proofs.laws.same_step.Goals as goal
 
 pub returns : goal.returns

@@ -1,4 +1,4 @@
-use Rattle.chip_rows.proofs.Leaving.{runs_on}
+use Rattle.chip_rows.proofs.StepWrites.{runs_on}
 use Rattle.chip_rows.proofs.laws.step_runs_on.Goals as goal
 
 pub returns : goal.returns

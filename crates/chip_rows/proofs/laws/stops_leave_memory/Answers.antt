@@ -1,4 +1,4 @@
-use Rattle.chip_rows.proofs.Leaving as law
+use Rattle.chip_rows.proofs.StepWrites as law
 use Rattle.chip_rows.proofs.laws.stops_leave_memory.Goals as goal
 
 pub returns : goal.returns

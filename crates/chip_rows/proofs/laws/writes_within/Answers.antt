@@ -1,5 +1,5 @@
-use Rattle.chip_rows.proofs.Leaving as law
-use Rattle.chip_rows.proofs.Reading.{stays_within}
+use Rattle.chip_rows.proofs.StepWrites as law
+use Rattle.chip_rows.proofs.StepReads.{stays_within}
 use Rattle.chip_rows.proofs.laws.writes_within.Goals as goal
 
 pub returns : goal.returns

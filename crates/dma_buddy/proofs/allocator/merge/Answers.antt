@@ -1,7 +1,7 @@
 use Rattle.std.proofs.Common.{subst, sym, rules}
 use Rattle.dma_buddy.specs.declared.buddies.Chunk.{Chunk}
 use Rattle.dma_buddy.specs.Regions.{IsChunkOf, IsFree}
-use Rattle.dma_buddy.proofs.Giving.{merged-none, buddy-inside, merged-step}
+use Rattle.dma_buddy.proofs.GivenChunks.{merged-none, buddy-inside, merged-step}
 use Rattle.dma_buddy.proofs.allocator.merge.Goals as goal
 
 pub loop-whole-init : goal.loop-whole-init

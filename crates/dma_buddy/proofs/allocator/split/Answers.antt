@@ -1,6 +1,6 @@
 use Rattle.std.proofs.Common.{◌<◌, arith}
 use Rattle.dma_buddy.proofs.Sizes.{size-least}
-use Rattle.dma_buddy.proofs.Splitting.{step-size, step-at-least, step-chunk, step-more}
+use Rattle.dma_buddy.proofs.Splits.{step-size, step-at-least, step-chunk, step-more}
 use Rattle.dma_buddy.proofs.allocator.split.Goals as goal
 
 pub overflow_add-whole : goal.overflow_add-whole

@@ -6,7 +6,7 @@ use Rattle.scsi_target.specs.declared.connection_state.ConnectionState.{Connecti
 use Rattle.scsi_target.specs.declared.connection_state.ConnectionState.TheVariants as held
 use Rattle.scsi_target.proofs.Acks.{keeps_rules}
 use Rattle.scsi_target.proofs.Resets.{no_task}
-use Rattle.scsi_target.proofs.Leaving.{parted_is, idle_is, idle_device}
+use Rattle.scsi_target.proofs.Disconnects.{parted_is, idle_is, idle_device}
 use Rattle.scsi_target.proofs.bus.left.Goals as goal
 
 pub returns-in-TaskConnected-clause-state : goal.returns-in-TaskConnected-clause-state

@@ -1,4 +1,4 @@
-use Rattle.target_bus.proofs.Counting.{count-there, count-is, count-none}
+use Rattle.target_bus.proofs.CandidateCounts.{count-there, count-is, count-none}
 use Rattle.target_bus.proofs.candidates.candidates_at.Goals as goal
 
 pub can_reselect-requires : goal.can_reselect-requires

@@ -1,5 +1,5 @@
 use Rattle.chip_step.specs.Chip.{state}
-use Rattle.target_bus.proofs.Stepping.{step-shows, rests}
+use Rattle.target_bus.proofs.BusSteps.{step-shows, rests}
 use Rattle.target_bus.proofs.live_bus.step.Goals as goal
 
 pub returns-clause-does : goal.returns-clause-does

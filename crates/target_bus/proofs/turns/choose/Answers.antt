@@ -1,5 +1,5 @@
 use Rattle.std.proofs.Common.{◌∙◌, ◌&&◌, not, ap, sym, Bool}
-use Rattle.target_bus.proofs.Turning.{to-choose, named-is, asks-is, acts-is}
+use Rattle.target_bus.proofs.ConnectedTurns.{to-choose, named-is, asks-is, acts-is}
 use Rattle.target_bus.proofs.turns.choose.Goals as goal
 
 pub choose-chosen-requires : goal.choose-chosen-requires

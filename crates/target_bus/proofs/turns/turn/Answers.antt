@@ -1,7 +1,7 @@
 use Rattle.std.proofs.Common.{◌≡◌, ◌∙◌, ap, sym, is_some, None}
 use Rattle.target_law.specs.Calls.{link_phase}
 use Rattle.bus_law.specs.Choices.{left_where}
-use Rattle.target_bus.proofs.Turning.{turned-stays, is-none, turned-none, left-none, left-some}
+use Rattle.target_bus.proofs.ConnectedTurns.{turned-stays, is-none, turned-none, left-none, left-some}
 use Rattle.target_bus.proofs.turns.turn.Goals as goal
 
 pub choose-requires-clause-none : goal.choose-requires-clause-none

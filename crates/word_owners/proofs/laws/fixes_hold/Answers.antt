@@ -1,4 +1,4 @@
-use Rattle.word_owners.proofs.Fixing.{fix_holds}
+use Rattle.word_owners.proofs.Fixes.{fix_holds}
 use Rattle.word_owners.proofs.laws.fixes_hold.Goals as goal
 
 pub returns : goal.returns

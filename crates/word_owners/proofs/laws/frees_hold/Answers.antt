@@ -1,4 +1,4 @@
-use Rattle.word_owners.proofs.Freeing.{free_holds}
+use Rattle.word_owners.proofs.Frees.{free_holds}
 use Rattle.word_owners.proofs.laws.frees_hold.Goals as goal
 
 pub returns : goal.returns

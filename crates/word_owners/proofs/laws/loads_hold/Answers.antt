@@ -1,4 +1,4 @@
-use Rattle.word_owners.proofs.Loading.{loads_hold}
+use Rattle.word_owners.proofs.Loads.{loads_hold}
 use Rattle.word_owners.proofs.laws.loads_hold.Goals as goal
 
 pub returns : goal.returns

@@ -1,4 +1,4 @@
-use Rattle.word_owners.proofs.Resetting.{reset_holds}
+use Rattle.word_owners.proofs.FrontWrites.{reset_holds}
 use Rattle.word_owners.proofs.laws.resets_hold.Goals as goal
 
 pub returns : goal.returns

@@ -1,4 +1,4 @@
-use Rattle.word_owners.proofs.Sensing.{sense_holds}
+use Rattle.word_owners.proofs.Senses.{sense_holds}
 use Rattle.word_owners.proofs.laws.senses_hold.Goals as goal
 
 pub returns : goal.returns

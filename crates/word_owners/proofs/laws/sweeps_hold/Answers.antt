@@ -1,4 +1,4 @@
-use Rattle.word_owners.proofs.Sweeping.{sweep_holds}
+use Rattle.word_owners.proofs.Sweeps.{sweep_holds}
 use Rattle.word_owners.proofs.laws.sweeps_hold.Goals as goal
 
 pub returns : goal.returns

@@ -1,4 +1,4 @@
-use Rattle.word_owners.proofs.Taking.{take_holds}
+use Rattle.word_owners.proofs.DoneTaken.{take_holds}
 use Rattle.word_owners.proofs.laws.takes_hold.Goals as goal
 
 pub returns : goal.returns

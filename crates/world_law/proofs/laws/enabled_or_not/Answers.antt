@@ -1,4 +1,4 @@
-use Rattle.world_law.proofs.Testing.{enabled_or_not}
+use Rattle.world_law.proofs.Decisions.{enabled_or_not}
 use Rattle.world_law.proofs.laws.enabled_or_not.Goals as goal
 
 pub returns : goal.returns

@@ -1,4 +1,4 @@
-use Rattle.world_law.proofs.Extending.{opens_alike, extends}
+use Rattle.world_law.proofs.MoreLines.{opens_alike, extends}
 use Rattle.world_law.proofs.laws.longer_works.Goals as goal
 
 pub returns : goal.returns

@@ -1,4 +1,4 @@
-use Rattle.world_law.proofs.Recording.{answers_once, runs_on}
+use Rattle.world_law.proofs.Recorded.{answers_once, runs_on}
 use Rattle.world_law.proofs.laws.one_answer.Goals as goal
 
 pub returns : goal.returns

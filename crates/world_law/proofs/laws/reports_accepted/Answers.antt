@@ -1,4 +1,4 @@
-use Rattle.world_law.proofs.Numbering.{numbers_tickets, reports_all, freed_stays_so}
+use Rattle.world_law.proofs.TicketNumbers.{numbers_tickets, reports_all, freed_stays_so}
 use Rattle.world_law.proofs.laws.reports_accepted.Goals as goal
 
 pub returns : goal.returns

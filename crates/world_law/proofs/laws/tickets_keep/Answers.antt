@@ -1,4 +1,4 @@
-use Rattle.world_law.proofs.Keeping.{keeps_tickets, lines_match}
+use Rattle.world_law.proofs.TicketsKept.{keeps_tickets, lines_match}
 use Rattle.world_law.proofs.laws.tickets_keep.Goals as goal
 
 pub returns : goal.returns

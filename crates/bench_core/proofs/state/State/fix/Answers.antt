@@ -1,7 +1,7 @@
 use Rattle.std.proofs.Common.{rules, ◌≡◌, true}
 use Rattle.bench_words.specs.Memory.{word_at}
 use Rattle.phase_fix.specs.Repair.{IsFixable}
-use Rattle.bench_core.proofs.Fixing.{fixes_so}
+use Rattle.bench_core.proofs.Fixes.{fixes_so}
 use Rattle.bench_core.proofs.state.State.fix.Goals as goal
 
 -- src/repairing.rt:23:9

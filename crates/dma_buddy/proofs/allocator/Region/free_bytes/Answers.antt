@@ -1,5 +1,5 @@
 use Rattle.std.proofs.Common.{arith}
-use Rattle.dma_buddy.proofs.Counting.{most-free}
+use Rattle.dma_buddy.proofs.FreeBytes.{most-free}
 use Rattle.dma_buddy.proofs.allocator.Region.free_bytes.Goals as goal
 
 pub returns-clause-most : goal.returns-clause-most

@@ -1,7 +1,7 @@
 use Rattle.std.proofs.Common.{subst, sym, arith}
 use Rattle.dma_buddy.specs.Regions.{Space, IsOut, IsRegion}
-use Rattle.dma_buddy.proofs.Counting.{most-free}
-use Rattle.dma_buddy.proofs.Giving.{gives, region-after-give, puts-back, fits-back}
+use Rattle.dma_buddy.proofs.FreeBytes.{most-free}
+use Rattle.dma_buddy.proofs.GivenChunks.{gives, region-after-give, puts-back, fits-back}
 use Rattle.dma_buddy.proofs.allocator.Region.give.Goals as goal
 
 pub overflow_add-self : goal.overflow_add-self

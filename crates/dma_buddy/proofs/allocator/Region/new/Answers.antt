@@ -1,5 +1,5 @@
 use Rattle.std.proofs.Common.{◌≡◌, ℕ, subst, arith}
-use Rattle.dma_buddy.proofs.Splitting.{Opened, opened-whole}
+use Rattle.dma_buddy.proofs.Splits.{Opened, opened-whole}
 use Rattle.dma_buddy.proofs.allocator.Region.new.Goals as goal
 
 pub returns-clause-whole : goal.returns-clause-whole

@@ -1,4 +1,4 @@
-use Rattle.dma_buddy.proofs.Splitting.{Opened}
+use Rattle.dma_buddy.proofs.Splits.{Opened}
 use Rattle.dma_buddy.proofs.allocator.Region.new.Given as goal
 
 abbrev pub invariant-loop-unit : goal.invariant-loop-unit

@@ -1,6 +1,6 @@
 use Rattle.std.proofs.Common.{refl, arith}
 use Rattle.dma_buddy.specs.Regions.{IsBestFor}
-use Rattle.dma_buddy.proofs.Taking.{size-within, take-region, take-bytes, take-out}
+use Rattle.dma_buddy.proofs.TakenChunks.{size-within, take-region, take-bytes, take-out}
 use Rattle.dma_buddy.proofs.allocator.Region.take.Goals as goal
 
 pub split-requires-clause-within : goal.split-requires-clause-within

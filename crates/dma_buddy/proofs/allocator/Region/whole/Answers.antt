@@ -1,4 +1,4 @@
-use Rattle.dma_buddy.proofs.Counting.{whole-test}
+use Rattle.dma_buddy.proofs.FreeBytes.{whole-test}
 use Rattle.dma_buddy.proofs.allocator.Region.whole.Goals as goal
 
 pub returns-clause-opening : goal.returns-clause-opening

@@ -1,5 +1,5 @@
 use Rattle.std.proofs.Common.{◌≡◌, ℕ, ◌<◌, true, false, get_or, arith, rules}
-use Rattle.dma_buddy.proofs.Marking.{none-for}
+use Rattle.dma_buddy.proofs.SizeFlags.{none-for}
 use Rattle.dma_buddy.proofs.Places.{index-fits, product-fits, sum-fits, best-at}
 use Rattle.dma_buddy.proofs.free_chunks.FreeChunks.best.Goals as goal
 

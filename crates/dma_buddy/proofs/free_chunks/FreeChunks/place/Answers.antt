@@ -2,7 +2,7 @@ use Rattle.std.proofs.Common.{subst, sym, refl, arith}
 use Rattle.std.specs.Int.{w32, trailing_zeros}
 use Rattle.dma_buddy.specs.Regions.{Space, IsChunkOf}
 use Rattle.dma_buddy.specs.Marks.{space_of}
-use Rattle.dma_buddy.proofs.Marking.{size-zeros}
+use Rattle.dma_buddy.proofs.SizeFlags.{size-zeros}
 use Rattle.dma_buddy.proofs.Places.{placed}
 use Rattle.dma_buddy.proofs.free_chunks.FreeChunks.place.Goals as goal
 

@@ -4,7 +4,7 @@ use Rattle.scsi_target.specs.Held.{IsHeldDevice}
 use Rattle.scsi_target.specs.Views.{device_of}
 use Rattle.scsi_target.specs.declared.connection_state.ConnectionState.{ConnectionState as HeldState}
 use Rattle.scsi_target.proofs.DistinctTags.{told}
-use Rattle.scsi_target.proofs.Leaving.{parted_tags}
+use Rattle.scsi_target.proofs.Disconnects.{parted_tags}
 use Rattle.scsi_target.proofs.device.Device.leave.Goals as goal
 
 pub invariant_of-self : goal.invariant_of-self

@@ -5,7 +5,7 @@ use Rattle.target_law.specs.Devices.{DeviceState}
 use Rattle.bus_law.specs.Bus.{BusState}
 use Rattle.bus_law.specs.Bytes.{is_same_phase, byte_of, after_byte_in}
 use Rattle.target_bus.specs.Fields.{bus_of}
-use Rattle.target_bus.proofs.Staying.{link-is, here-is, gives, unasked-byte}
+use Rattle.target_bus.proofs.BusInvariant.{link-is, here-is, gives, unasked-byte}
 use Rattle.target_bus.proofs.bus.TargetBus.byte_in.Goals as goal
 
 pub returns-then-not-is_same-clause-byte : goal.returns-then-not-is_same-clause-byte

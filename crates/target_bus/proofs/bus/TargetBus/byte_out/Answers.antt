@@ -5,7 +5,7 @@ use Rattle.target_law.specs.Target.{Target}
 use Rattle.bus_law.specs.Bus.{BusState, link_on, becomes}
 use Rattle.bus_law.specs.Bytes.{device_took, after_byte_out}
 use Rattle.target_bus.specs.Fields.{bus_of, IsHeldBus, ticket_on}
-use Rattle.target_bus.proofs.Staying.{link-is, here-is, changed-is, stays-is, untook, took-live, took-is, took-held}
+use Rattle.target_bus.proofs.BusInvariant.{link-is, here-is, changed-is, stays-is, untook, took-live, took-is, took-held}
 use Rattle.target_bus.proofs.bus.TargetBus.byte_out.Goals as goal
 
 pub invariant_of-self : goal.invariant_of-self

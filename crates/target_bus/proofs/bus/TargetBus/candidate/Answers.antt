@@ -1,7 +1,7 @@
 use Rattle.std.proofs.Common.{◌∙◌, ◌%◌, ℕ, ap, sym}
 use Rattle.std.specs.Prelude.{slice_get}
 use Rattle.bus_law.specs.Reselections.{all_candidates}
-use Rattle.target_bus.proofs.Counting.{uncalled, none-named, is-named, can-be}
+use Rattle.target_bus.proofs.CandidateCounts.{uncalled, none-named, is-named, can-be}
 use Rattle.target_bus.proofs.bus.TargetBus.candidate.Goals as goal
 
 pub returns-then-not-calls-clause-named : goal.returns-then-not-calls-clause-named

@@ -1,5 +1,5 @@
 use Rattle.std.proofs.Common.{◌<◌, subst, arith, ℕ}
-use Rattle.target_bus.proofs.Counting.{found-here, found-after, found-none}
+use Rattle.target_bus.proofs.CandidateCounts.{found-here, found-after, found-none}
 use Rattle.target_bus.proofs.bus.TargetBus.candidate_at.Goals as goal
 
 pub returns-then-left-count : goal.returns-then-left-count

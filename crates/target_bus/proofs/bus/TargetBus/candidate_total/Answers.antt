@@ -1,5 +1,5 @@
 use Rattle.std.proofs.Common.{arith}
-use Rattle.target_bus.proofs.Counting.{total-step, total-end}
+use Rattle.target_bus.proofs.CandidateCounts.{total-step, total-end}
 use Rattle.target_bus.proofs.bus.TargetBus.candidate_total.Goals as goal
 
 pub loop-unit-preserved : goal.loop-unit-preserved

@@ -3,8 +3,8 @@ use Rattle.target_law.specs.Target.{unit_at}
 use Rattle.target_law.specs.Devices.{DeviceState}
 use Rattle.bus_law.specs.Bus.{BusState, device_at}
 use Rattle.bus_law.specs.Reselections.{candidate_count}
-use Rattle.target_bus.proofs.Staying.{read-is}
-use Rattle.target_bus.proofs.Counting.{count-past}
+use Rattle.target_bus.proofs.BusInvariant.{read-is}
+use Rattle.target_bus.proofs.CandidateCounts.{count-past}
 use Rattle.target_bus.proofs.bus.TargetBus.candidates_of.Goals as goal
 
 pub returns-then-len-unit-clause-count : goal.returns-then-len-unit-clause-count

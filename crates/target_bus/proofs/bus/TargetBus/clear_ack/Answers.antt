@@ -3,7 +3,7 @@ use Rattle.target_law.specs.Devices.{DeviceState}
 use Rattle.bus_law.specs.Bus.{BusState, becomes}
 use Rattle.bus_law.specs.Attention.{device_acked}
 use Rattle.target_bus.specs.Fields.{bus_of, IsHeldBus}
-use Rattle.target_bus.proofs.Staying.{here-is, changed-is, acked-held}
+use Rattle.target_bus.proofs.BusInvariant.{here-is, changed-is, acked-held}
 use Rattle.target_bus.proofs.bus.TargetBus.clear_ack.Goals as goal
 
 pub invariant_of-self-2 : goal.invariant_of-self-2

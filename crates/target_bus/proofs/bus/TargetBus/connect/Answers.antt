@@ -5,7 +5,7 @@ use Rattle.bus_law.specs.Bus.{BusState}
 use Rattle.bus_law.specs.Reselections.{candidate_count, candidate_named, reselected}
 use Rattle.target_bus.specs.Fields.{bus_of, IsHeldBus}
 use Rattle.target_bus.specs.Candidates.{candidate_of, CanReselect}
-use Rattle.target_bus.proofs.Counting.{below-count}
+use Rattle.target_bus.proofs.CandidateCounts.{below-count}
 use Rattle.target_bus.proofs.Selections.{candidate-within, all-free, reselected-held, reselected-is}
 use Rattle.target_bus.proofs.bus.TargetBus.connect.Goals as goal
 

@@ -1,6 +1,6 @@
 use Rattle.std.proofs.Common.{◌≡◌, ◌∙◌, ap, arith, length}
 use Rattle.bus_law.specs.Bus.{BusState, device_at}
-use Rattle.target_bus.proofs.Staying.{read-is}
+use Rattle.target_bus.proofs.BusInvariant.{read-is}
 use Rattle.target_bus.proofs.bus.TargetBus.device.Goals as goal
 
 pub index-requires : goal.index-requires

@@ -5,7 +5,7 @@ use Rattle.target_law.specs.Target.{ConnectionState}
 use Rattle.bus_law.specs.Bus.{BusState, link_on, device_at, becomes}
 use Rattle.bus_law.specs.Attention.{is_message_out, device_messaged, messaged}
 use Rattle.target_bus.specs.Fields.{bus_of, IsHeldBus}
-use Rattle.target_bus.proofs.Staying.{link-is, here-is, changed-is, messaged-is, heard-held}
+use Rattle.target_bus.proofs.BusInvariant.{link-is, here-is, changed-is, messaged-is, heard-held}
 use Rattle.target_bus.proofs.bus.TargetBus.end_message.Goals as goal
 
 abbrev bus : goal.After-self-4-1 → BusState

@@ -1,7 +1,7 @@
 use Rattle.std.proofs.Common.{vec_len}
 use Rattle.bus_law.specs.Bus.{BusState}
 use Rattle.target_bus.specs.Fields.{bus_of}
-use Rattle.target_bus.proofs.Turning.{asked-held}
+use Rattle.target_bus.proofs.ConnectedTurns.{asked-held}
 use Rattle.target_bus.proofs.bus.TargetBus.phase.Goals as goal
 
 pub invariant_of-self : goal.invariant_of-self

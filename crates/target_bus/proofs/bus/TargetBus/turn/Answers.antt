@@ -4,8 +4,8 @@ use Rattle.target_law.specs.Devices.{DeviceState}
 use Rattle.bus_law.specs.Bus.{BusState, becomes}
 use Rattle.bus_law.specs.Choices.{turned, after_turn, phase_after}
 use Rattle.target_bus.specs.Fields.{bus_of, IsHeldBus}
-use Rattle.target_bus.proofs.Staying.{here-is, changed-is}
-use Rattle.target_bus.proofs.Turning.{turned-is, turned-shows, turned-held, connected-free, read-set}
+use Rattle.target_bus.proofs.BusInvariant.{here-is, changed-is}
+use Rattle.target_bus.proofs.ConnectedTurns.{turned-is, turned-shows, turned-held, connected-free, read-set}
 use Rattle.target_bus.proofs.bus.TargetBus.turn.Goals as goal
 
 pub turn-requires : goal.turn-requires

@@ -1,4 +1,4 @@
-use Rattle.unit_task.proofs.Keeping.{looked-sound, sends-unreceived}
+use Rattle.unit_task.proofs.SoundTasks.{looked-sound, sends-unreceived}
 use Rattle.unit_task.proofs.Ends.{others-looked}
 use Rattle.unit_task.proofs.task.Task.look.Goals as goal
 

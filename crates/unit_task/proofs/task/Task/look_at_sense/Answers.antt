@@ -1,4 +1,4 @@
-use Rattle.unit_task.proofs.Keeping.{looked-sound, sends-unreceived}
+use Rattle.unit_task.proofs.SoundTasks.{looked-sound, sends-unreceived}
 use Rattle.unit_task.proofs.task.Task.look_at_sense.Goals as goal
 
 pub keep_sense-requires-clause-nothing : goal.keep_sense-requires-clause-nothing

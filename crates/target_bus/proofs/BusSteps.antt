@@ -6,7 +6,7 @@ use Rattle.chip_step.specs.Chip.{Chip, state}
 use Rattle.chip_step.specs.Step.{ChipStep}
 use Rattle.chip_step.specs.declared.outcome.StepEnd.{StepEnd}
 use Rattle.chip_rows.specs.Following.{over}
-use Rattle.chip_rows.proofs.Following.{steps_show}
+use Rattle.chip_rows.proofs.RelatedBuses.{steps_show}
 use Rattle.target_law.specs.declared.nexus.Nexus.{Nexus}
 use Rattle.bus_law.specs.Moves.{moves}
 use Rattle.target_bus.specs.Live.{MovesWith}

@@ -27,13 +27,13 @@ use Rattle.word_owners.specs.Works.{Role, Nothing, First, Asked, Working, Closin
 use Rattle.word_owners.specs.Holds.{closing_at, work_at}
 use Rattle.word_owners.specs.Laws.{TakeHolds}
 use Rattle.word_owners.proofs.Frames.{same_or, active-live, loaded-frame, chains-frame, constants-frame, fixed-frame, block-frame, begun-frame, over-frame, start-frame, front-frame, not_starting-frame}
-use Rattle.word_owners.proofs.Turning.{Fits, tickets-turned, parts-turned, tags-turned, work-turned, worker-active}
-use Rattle.word_owners.proofs.Changing.{tags-frame, fresh-live}
-use Rattle.word_owners.proofs.Moving.{Onward, work-onward}
+use Rattle.word_owners.proofs.StageChanges.{Fits, tickets-turned, parts-turned, tags-turned, work-turned, worker-active}
+use Rattle.word_owners.proofs.WriteFrames.{tags-frame, fresh-live}
+use Rattle.word_owners.proofs.ChipWork.{Onward, work-onward}
 use Rattle.word_owners.proofs.Lists.{desk-turns, desk-staged, desk-checked, same-fixed}
-use Rattle.word_owners.proofs.Staying.{patched, quiet_holds, entries-at, unasked-same, closing-worker}
+use Rattle.word_owners.proofs.ChipPlace.{patched, quiet_holds, entries-at, unasked-same, closing-worker}
 use Rattle.word_owners.proofs.Room.{done-room}
-use Rattle.word_owners.proofs.Sweeping.{both, equal}
+use Rattle.word_owners.proofs.Sweeps.{both, equal}
 use Rattle.word_owners.proofs.Patches.{few}
 
 -- ---- the slot is idle again

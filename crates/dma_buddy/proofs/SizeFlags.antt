@@ -14,7 +14,7 @@ use Rattle.dma_buddy.specs.Regions.{Space, IsAmong, IsListed, IsChunkOf, IsNoneF
 use Rattle.dma_buddy.specs.Marks.{marked, listed, chunk_at, flag_at, space_of, IsShaped, IsPlaceOf, Adds, Drops}
 use Rattle.dma_buddy.proofs.Sizes.{same-chunk, pow-same, size-most, size-unit, aligned-down, multiple-of}
 use Rattle.dma_buddy.proofs.Sets.{among-left, among-right, among-append, listed-append, none-among}
-use Rattle.dma_buddy.proofs.Counting.{multiples}
+use Rattle.dma_buddy.proofs.FreeBytes.{multiples}
 
 abbrev total : List Chunk → ℕ
 total xs = sum_by (λ c. c.size) xs

@@ -42,12 +42,12 @@ use Rattle.word_owners.specs.Works.{Role, Nothing, First, Asked, Working, Closin
 use Rattle.word_owners.specs.Holds.{Spot, Holds, Running, Mismatched, NotData, Fixed as Repaired, TimedOut, JobOver, ResetAt, Broken, StoppedFor, IsJobOver, IsUnasked, resumed, closing_at, work_at}
 use Rattle.word_owners.specs.Laws.{SweepHolds}
 use Rattle.word_owners.proofs.Frames.{same_or, active-live, block-with}
-use Rattle.word_owners.proofs.Turning.{Aside, Fits, tickets-turned, parts-turned, tags-turned, work-turned}
-use Rattle.word_owners.proofs.Changing.{BlockChanges, Untouched, low-same}
-use Rattle.word_owners.proofs.Staying.{patched}
-use Rattle.word_owners.proofs.Marking.{block-patch}
-use Rattle.word_owners.proofs.Resetting.{asked-outside}
-use Rattle.word_owners.proofs.Restarting.{move-far, not-far}
+use Rattle.word_owners.proofs.StageChanges.{Aside, Fits, tickets-turned, parts-turned, tags-turned, work-turned}
+use Rattle.word_owners.proofs.WriteFrames.{BlockChanges, Untouched, low-same}
+use Rattle.word_owners.proofs.ChipPlace.{patched}
+use Rattle.word_owners.proofs.Aborts.{block-patch}
+use Rattle.word_owners.proofs.FrontWrites.{asked-outside}
+use Rattle.word_owners.proofs.Restarts.{move-far, not-far}
 use Rattle.word_owners.proofs.Lists.{desk-turns, desk-staged, desk-checked, same-fixed}
 use Rattle.job_rings.proofs.RingLaws.{counts_start_slots}
 use Rattle.word_owners.proofs.Room.{start-room}

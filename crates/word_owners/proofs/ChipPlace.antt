@@ -25,7 +25,7 @@ use Rattle.word_owners.specs.Parts.{Counts, Parts, TagTables}
 use Rattle.word_owners.specs.Works.{Works, Has, Holding, role, worker, block_by, own_block}
 use Rattle.word_owners.specs.Holds.{Spot, Running, Mismatched, NotData, Fixed, TimedOut, JobOver, ResetAt, Broken, work_at, link_at, closing_at, StoppedFor, IsJobOver, BrokenOff, AtPoint, IsUnasked, Stays, Linked, HoldsFor, Holds}
 use Rattle.word_owners.proofs.Frames.{Same, segments-frame, contexts-frame}
-use Rattle.word_owners.proofs.Turning.{staged}
+use Rattle.word_owners.proofs.StageChanges.{staged}
 
 -- the block of the ticket at work is as before
 abbrev pub SameBlock : Tickets → Tickets → Option ℕ → Type 0

@@ -38,9 +38,9 @@ use Rattle.word_owners.specs.Works.{Role, Nothing, First, Asked, Working, Closin
 use Rattle.word_owners.specs.Holds.{Spot, Mismatched, ResetAt, Stays, HoldsFor, closing_at, work_at, link_at}
 use Rattle.word_owners.specs.Laws.{SenseHolds}
 use Rattle.word_owners.proofs.Frames.{Same, same_or, active-live, other-block, loaded-frame, chains-frame, constants-frame, fixed-frame, block-frame, segments-same, filled-frame, names-frame, pointer-frame}
-use Rattle.word_owners.proofs.Turning.{Aside, aside, Turns, live-before, worker-active}
+use Rattle.word_owners.proofs.StageChanges.{Aside, aside, Turns, live-before, worker-active}
 use Rattle.word_owners.proofs.Lists.{desk-turns, desk-checked, live-within}
-use Rattle.word_owners.proofs.Staying.{SameBlock, SameEntries, stays-same, linked-same}
+use Rattle.word_owners.proofs.ChipPlace.{SameBlock, SameEntries, stays-same, linked-same}
 use Rattle.word_owners.proofs.Patches.{few, idle-gate}
 use Rattle.chip_regs.specs.declared.registers.Regs.{Regs}
 

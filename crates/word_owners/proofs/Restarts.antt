@@ -31,7 +31,7 @@ use Rattle.word_owners.specs.Works.{Works}
 use Rattle.word_owners.specs.Holds.{Spot, Holds, Running, Mismatched, NotData, Fixed, TimedOut, JobOver, ResetAt, Broken, StoppedFor, IsJobOver, AtPoint, Linked, closing_at, ahead_at}
 use Rattle.word_owners.specs.Laws.{RestartHolds}
 use Rattle.word_owners.proofs.Frames.{active-live}
-use Rattle.word_owners.proofs.Resetting.{parts-front, tags-front}
+use Rattle.word_owners.proofs.FrontWrites.{parts-front, tags-front}
 use Rattle.word_owners.proofs.Patches.{few}
 
 clears-stops : (r : Regs) (dsp : ℕ) → is_stopped (record (without_stops r) { dsp = dsp }) ≡ false

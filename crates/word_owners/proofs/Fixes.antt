@@ -41,7 +41,7 @@ use Rattle.word_owners.specs.Parts.{Counts, IsStart, IsBlock}
 use Rattle.word_owners.specs.Holds.{HoldsFor, Holds, Running, Mismatched, NotData, Fixed as Repaired, TimedOut, JobOver, ResetAt, Broken, BrokenOff}
 use Rattle.word_owners.specs.Laws.{FixHolds}
 use Rattle.word_owners.proofs.Frames.{same_or, active-live}
-use Rattle.word_owners.proofs.Changing.{BlockChanges, parts-block, tags-frame, low-same, may-work}
+use Rattle.word_owners.proofs.WriteFrames.{BlockChanges, parts-block, tags-frame, low-same, may-work}
 use Rattle.word_owners.proofs.Patches.{few}
 
 suffix-drop : (k : ℕ) (xs zs : List ℕ) → k ≤ length xs → IsSuffix xs zs → IsSuffix (drop k xs) zs

@@ -26,8 +26,8 @@ use Rattle.word_owners.specs.Works.{Role, Asked, role, Works}
 use Rattle.word_owners.specs.Holds.{Spot, Holds, Running, Mismatched, NotData, Fixed, TimedOut, JobOver, ResetAt, Broken, StoppedFor, AtPoint, resumed, closing_at, ahead_at}
 use Rattle.word_owners.specs.Laws.{ResetHolds, resets_to}
 use Rattle.word_owners.proofs.Frames.{active-live, loaded-frame, chains-frame, constants-frame, fixed-frame, block-frame, begun-frame, start-frame, done-frame}
-use Rattle.word_owners.proofs.Changing.{tags-frame, fresh-live}
-use Rattle.word_owners.proofs.Moving.{Onward, work-onward}
+use Rattle.word_owners.proofs.WriteFrames.{tags-frame, fresh-live}
+use Rattle.word_owners.proofs.ChipWork.{Onward, work-onward}
 use Rattle.word_owners.proofs.Patches.{few}
 
 -- FRONT is written: the idle block or the job

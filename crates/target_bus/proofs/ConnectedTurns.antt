@@ -21,7 +21,7 @@ use Rattle.bus_law.specs.Choices.{named_by, named, acts, chooses, left_by, left_
 use Rattle.bus_law.specs.Laws.{OneConnected}
 use Rattle.bus_law.proofs.OneConnected.{stays_connected}
 use Rattle.target_bus.specs.Fields.{IsHeldBus}
-use Rattle.target_bus.proofs.Staying.{waits, link-is, quiet, set-same, becomes-held, within}
+use Rattle.target_bus.proofs.BusInvariant.{waits, link-is, quiet, set-same, becomes-held, within}
 
 -- ---- the choice
 

@@ -28,13 +28,13 @@ use Rattle.word_owners.specs.Works.{Role, role, worker}
 use Rattle.word_owners.specs.Holds.{Spot, Mismatched, ResetAt, Holds, closing_at, work_at}
 use Rattle.word_owners.specs.Laws.{QueueHolds}
 use Rattle.word_owners.proofs.Frames.{active-live, loaded-frame, chains-frame, constants-frame, fixed-frame, block-frame, block-with, begun-frame, waits-frame, done-frame, front-frame, not_entered-frame}
-use Rattle.word_owners.proofs.Turning.{Fits, aside, tickets-turned, parts-turned, tags-turned, work-turned, worker-active, staged}
-use Rattle.word_owners.proofs.Changing.{BlockChanges, tags-frame, fresh-live}
-use Rattle.word_owners.proofs.Moving.{Onward, work-onward}
+use Rattle.word_owners.proofs.StageChanges.{Fits, aside, tickets-turned, parts-turned, tags-turned, work-turned, worker-active, staged}
+use Rattle.word_owners.proofs.WriteFrames.{BlockChanges, tags-frame, fresh-live}
+use Rattle.word_owners.proofs.ChipWork.{Onward, work-onward}
 use Rattle.word_owners.proofs.Lists.{desk-turns, desk-staged, desk-checked, same-fixed}
-use Rattle.word_owners.proofs.Staying.{SameEntries, Patch, patched, entries-at, unasked-same}
+use Rattle.word_owners.proofs.ChipPlace.{SameEntries, Patch, patched, entries-at, unasked-same}
 use Rattle.word_owners.proofs.Room.{start-room}
-use Rattle.word_owners.proofs.Marking.{block-patch}
+use Rattle.word_owners.proofs.Aborts.{block-patch}
 use Rattle.word_owners.proofs.Patches.{few, idle-worker, idle-gate}
 
 -- what starting a block does to the words

@@ -8,7 +8,7 @@ use Rattle.dma_buddy.specs.Regions.{Space, IsFree, IsListed, IsChunkOf, IsRegion
 use Rattle.dma_buddy.specs.Marks.{Adds, Splits}
 use Rattle.dma_buddy.proofs.Sizes.{size-least, size-next, size-unit, same-chunk}
 use Rattle.dma_buddy.proofs.Intervals.{apart-not-within, chunk-of-same}
-use Rattle.dma_buddy.proofs.Taking.{left-within, left-chunk}
+use Rattle.dma_buddy.proofs.TakenChunks.{left-within, left-chunk}
 
 pub size-half : (s : ℕ) → IsChunkSize s → 512 < s → IsChunkSize (s / 2) × (2 * (s / 2) ≡ s)
 size-half s h l = go h.0 h.1 h.2

@@ -34,7 +34,7 @@ use Rattle.chip_step.proofs.Made.{one_spelling}
 use Rattle.chip_rows.specs.Touched.{Range, IsIn, Block, entry_of, untaken, went, is_in, range, range_at, of_block, reads, writes, fetches}
 use Rattle.chip_rows.specs.Leaving.{ChangesWithin, StaysWithin}
 use Rattle.chip_rows.specs.Reading.{SameWithin, ChangesAlike, with_memory, ReadsWithin}
-use Rattle.chip_rows.proofs.Leaving.{by, Other, below_or_in, stored_other, copied_other, takes, goes, writes_within}
+use Rattle.chip_rows.proofs.StepWrites.{by, Other, below_or_in, stored_other, copied_other, takes, goes, writes_within}
 
 -- ---- two memories
 

@@ -8,7 +8,7 @@ use Rattle.word_owners.specs.Points.{Work, Entering, Selected, Ending, Carrying,
 use Rattle.word_owners.specs.Parts.{Counts, NotStarting, NotEntered}
 use Rattle.word_owners.specs.Works.{Role, Nothing, First, Asked, Working, Closing, Done, role, worker, Plays, Extra, Works}
 use Rattle.word_owners.proofs.Frames.{Same, SameState, active-live, segments-same, filled-frame, names-frame, pointer-frame, waits-frame, begun-frame, over-frame}
-use Rattle.word_owners.proofs.Turning.{worker-active}
+use Rattle.word_owners.proofs.StageChanges.{worker-active}
 
 -- what stays of the work
 pub record Onward (w n : ℕ → ℕ) (ts : Tickets) (r : Role) (c d : Counts) : Type 0 where

@@ -19,10 +19,10 @@ use Rattle.word_owners.specs.Works.{role, worker, Extra, Works}
 use Rattle.word_owners.specs.Holds.{Spot, Holds, closing_at, work_at}
 use Rattle.word_owners.specs.Laws.{FreeHolds}
 use Rattle.word_owners.proofs.Frames.{same_or}
-use Rattle.word_owners.proofs.Turning.{Turns, staged, Aside, aside, live-before, tickets-turned, start-turned, done-turned, front-turned, answered-turned, works-turned, plays-turned}
-use Rattle.word_owners.proofs.Changing.{fresh-live}
+use Rattle.word_owners.proofs.StageChanges.{Turns, staged, Aside, aside, live-before, tickets-turned, start-turned, done-turned, front-turned, answered-turned, works-turned, plays-turned}
+use Rattle.word_owners.proofs.WriteFrames.{fresh-live}
 use Rattle.word_owners.proofs.Lists.{desk-turns, desk-staged, desk-checked, same-fixed}
-use Rattle.word_owners.proofs.Staying.{patched, entries-at}
+use Rattle.word_owners.proofs.ChipPlace.{patched, entries-at}
 use Rattle.word_owners.proofs.Patches.{idle-worker, idle-gate}
 
 module _ (version : ℕ) (w : ℕ → ℕ) (ts : Tickets) (c : Counts) (o : Option ℕ) (new : ℕ → Stage) (t : ℕ) (turns : Turns ts.stage new t stage.Freed) (live : IsLive (ts.stage t)) where

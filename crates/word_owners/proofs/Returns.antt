@@ -19,7 +19,7 @@ use Rattle.word_owners.specs.Parts.{Counts, Parts}
 use Rattle.word_owners.specs.Works.{Works}
 use Rattle.word_owners.specs.Holds.{Holds, Running, AtPoint, Linked}
 use Rattle.word_owners.specs.Laws.{ReturnsHold}
-use Rattle.word_owners.proofs.Jumping.{went, jump-to, linked-fetched}
+use Rattle.word_owners.proofs.Jumps.{went, jump-to, linked-fetched}
 
 -- what a RETURN from one point to another needs
 record Returns (p q : Point) (ts : Tickets) (c : Counts) (w : World) : Type 0 where

@@ -14,7 +14,7 @@ use Rattle.word_owners.specs.Points.{Work, Entering, Selected, Ending, Carrying,
 use Rattle.word_owners.specs.Parts.{Counts, Parts, TagTables, Asks, IsBlock, MayWork, HasAnswered, IsFresh}
 use Rattle.word_owners.specs.Works.{Role, Nothing, First, Asked, Working, Closing, Done, role, worker, Plays, Extra, Works}
 use Rattle.word_owners.proofs.Frames.{Same, SameState, same_or, active-live, other-block, loaded-frame, chains-frame, constants-frame, fixed-frame, segments-same, filled-frame, names-frame, pointer-frame, block-frame, waits-frame, begun-frame, over-frame, start-frame, done-frame, entry-frame, front-frame, not_starting-frame, not_entered-frame}
-use Rattle.word_owners.proofs.Turning.{Aside, worker-active}
+use Rattle.word_owners.proofs.StageChanges.{Aside, worker-active}
 
 pub fresh-live : (x : Stage) → IsFresh x → IsLive x
 fresh-live x (inl e) q = let z : Built ≡ Freed = sym e ∙ q in absurd cc

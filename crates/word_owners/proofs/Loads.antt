@@ -24,7 +24,7 @@ use Rattle.word_owners.specs.Parts.{Counts, Parts}
 use Rattle.word_owners.specs.Works.{Works}
 use Rattle.word_owners.specs.Holds.{Holds, Running, AtPoint, Linked}
 use Rattle.word_owners.specs.Laws.{LoadsHold}
-use Rattle.word_owners.proofs.Jumping.{went, jump-to}
+use Rattle.word_owners.proofs.Jumps.{went, jump-to}
 
 is-dsa : (x : Wide) → base_of x ≡ 0x10 → x ≡ Dsa
 is-dsa Dsa e = refl

@@ -24,8 +24,8 @@ use Rattle.word_owners.specs.Parts.{Counts, IsStart, IsBlock}
 use Rattle.word_owners.specs.Holds.{Spot, Holds, closing_at, work_at}
 use Rattle.word_owners.specs.Laws.{MarkHolds}
 use Rattle.word_owners.proofs.Frames.{same_or, block-with}
-use Rattle.word_owners.proofs.Changing.{BlockChanges, Untouched, low-same, parts-block, work-block, entries-block, tags-frame}
-use Rattle.word_owners.proofs.Staying.{Patch, patched, entries-at, unasked-same}
+use Rattle.word_owners.proofs.WriteFrames.{BlockChanges, Untouched, low-same, parts-block, work-block, entries-block, tags-frame}
+use Rattle.word_owners.proofs.ChipPlace.{Patch, patched, entries-at, unasked-same}
 use Rattle.word_owners.proofs.Patches.{few}
 
 -- a stage that isn't late has CANCEL among its STARTs
