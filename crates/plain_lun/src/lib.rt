@@ -9,6 +9,6 @@ mod sense;
 #[cfg(test)]
 mod tests;
 
-pub use lun::Lun;
+pub use lun::{Lun, pattern_byte};
 pub use performing::Answer;
 pub use sense::SenseCode;

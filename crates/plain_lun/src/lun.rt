@@ -92,8 +92,8 @@ fn filled(alloc: Global, pattern: Pattern, bytes: usize) -> Result<Vec<u8>, Allo
     Ok(disk)
 }
 
-/// Byte `i` of block `b`.
-fn pattern_byte(pattern: Pattern, b: usize, i: usize) -> u8
+/// Byte `i`, below 512, of block `b`, below 4,096, of a unit of this pattern at its opening.
+pub fn pattern_byte(pattern: Pattern, b: usize, i: usize) -> u8
     requires block { b < 4096 }
     requires byte { i < 512 }
     ensures { result ≡ pattern_byte pattern b i }
