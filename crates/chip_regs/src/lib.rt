@@ -6,6 +6,7 @@
 
 mod bits;
 mod laws;
+pub mod places;
 mod registers;
 
 pub use bits::{Ctest2, Dstat, Istat, Sist0, Sist1};

@@ -10,7 +10,7 @@ use crate::outcome::{StepEnd, stop};
 use crate::scsi_bus::Bus;
 use bench_words::Words;
 use chip_regs::{Cause, Regs};
-use scsi_words::Phase;
+use scsi_words::{Phase, phase_codes};
 
 /// Clears an ACK that is still asserted, and asks for the phase.
 pub fn ask<B: Bus>(bus: &mut B, word: u32) -> Option<Phase>
@@ -38,7 +38,7 @@ fn carry<B: Bus>(words: &mut Words, bus: &mut B, at: u32, count: u32, phase: u8)
     ensures most { result ≤ count }
 {
     if phase % 2 == 1 {
-        bytes_in(words, bus, phase == 7, at, count)
+        bytes_in(words, bus, phase == phase_codes::MSG_IN, at, count)
     } else {
         bytes_out(words, bus, at, count)
     }
@@ -68,7 +68,7 @@ fn count_down(words: &Words, regs: &mut Regs, phase: u8, left: u32)
 {
     let size = words.len();
     prove!(regs.dnad as u64 + regs.dbc as u64 <= size as u64);
-    if (phase == 7 || phase == 3) && left < regs.dbc {
+    if (phase == phase_codes::MSG_IN || phase == phase_codes::STATUS) && left < regs.dbc {
         regs.sfbr = words.byte(regs.dnad);
     }
     regs.dnad += regs.dbc - left;
@@ -82,7 +82,7 @@ fn finish<B: Bus>(regs: &mut Regs, bus: &mut B, phase: u8, left: u32) -> StepEnd
     if left > 0 {
         return stop(regs, Cause::Ma);
     }
-    release_atn(bus, phase == 6);
+    release_atn(bus, phase == phase_codes::MSG_OUT);
     StepEnd::Ran
 }
 

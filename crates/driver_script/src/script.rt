@@ -4,40 +4,16 @@ use crate::labels::{
     ABORTED, ALLMOVED, COMPLETE, CUT, DATA, DISPATCH, LEAVE, MSG, PUT, RESELECT, RESTORE, SAVE,
     START, STATUS, TAG,
 };
+use chip_regs::places::{CTEST2, DSA, DSA1, SCRATCHA, SCRATCHB, SFBR, SSID, TEMP};
 use cmd_block::offsets;
 use host_map::{
     ABORT_TAG, BADTASK_ADDRESS, CHAINS, CUR, CUT_STATE, DONEP, ENDED_STATE, FRONT,
     FRONT_IDLE_ADDRESS, MSGIN, NO_TARGET_STATE, OPEN_ADDRESS, OVER_ADDRESS, RINGP,
 };
 use scripts_ops::{Address, Change, Condition, Op};
-
-// Registers by their places.
-const SSID: u8 = 0x0a;
-
-const DSA: u8 = 0x10;
-
-const DSA1: u8 = 0x11;
-
-const CTEST2: u8 = 0x1a;
-
-const TEMP: u8 = 0x1c;
-
-const SCRATCHA: u8 = 0x34;
-
-const SCRATCHB: u8 = 0x5c;
-
-// Bus phases by their codes.
-const DATA_OUT: u8 = 0;
-
-const DATA_IN: u8 = 1;
-
-const COMMAND: u8 = 2;
-
-const STATUS_PHASE: u8 = 3;
-
-const MSG_OUT: u8 = 6;
-
-const MSG_IN: u8 = 7;
+use scsi_words::phase_codes::{
+    COMMAND, DATA_IN, DATA_OUT, MSG_IN, MSG_OUT, STATUS as STATUS_PHASE,
+};
 
 // Offsets in a slot of a ring, and of a tag's entry in its table.
 const SLOT_BLOCK: i32 = 0x00;
@@ -68,7 +44,7 @@ const CLEAR_ACK: Op = Op::Clear {
 };
 
 const TAG_OF_SFBR: Op = Op::ToSfbr {
-    register: 0x08,
+    register: SFBR,
     change: Change::And,
     byte: 0xfc,
 };

@@ -7,6 +7,7 @@
 
 mod lists;
 mod messages;
+pub mod phase_codes;
 mod phases;
 mod statuses;
 

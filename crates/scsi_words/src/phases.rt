@@ -5,6 +5,7 @@ ghost use Rattle.std.specs.Prelude.{◌≡◌, IfSome};
 
 pub mod kinds;
 
+use crate::phase_codes;
 use kinds::Phase;
 
 /// The phase with this code, and `None` exactly where no phase has it: for 4, 5 and all from 8 on.
@@ -13,12 +14,12 @@ pub fn phase(code: u8) -> Option<Phase>
     ensures every { (p : Phase) → phase_code p ≡ code → result ≡ Some p }
 {
     match code {
-        0 => Some(Phase::DataOut),
-        1 => Some(Phase::DataIn),
-        2 => Some(Phase::Command),
-        3 => Some(Phase::Status),
-        6 => Some(Phase::MsgOut),
-        7 => Some(Phase::MsgIn),
+        phase_codes::DATA_OUT => Some(Phase::DataOut),
+        phase_codes::DATA_IN => Some(Phase::DataIn),
+        phase_codes::COMMAND => Some(Phase::Command),
+        phase_codes::STATUS => Some(Phase::Status),
+        phase_codes::MSG_OUT => Some(Phase::MsgOut),
+        phase_codes::MSG_IN => Some(Phase::MsgIn),
         _ => None,
     }
 }
@@ -29,12 +30,12 @@ impl Phase {
         ensures { result ≡ phase_code self }
     {
         match self {
-            Phase::DataOut => 0,
-            Phase::DataIn => 1,
-            Phase::Command => 2,
-            Phase::Status => 3,
-            Phase::MsgOut => 6,
-            Phase::MsgIn => 7,
+            Phase::DataOut => phase_codes::DATA_OUT,
+            Phase::DataIn => phase_codes::DATA_IN,
+            Phase::Command => phase_codes::COMMAND,
+            Phase::Status => phase_codes::STATUS,
+            Phase::MsgOut => phase_codes::MSG_OUT,
+            Phase::MsgIn => phase_codes::MSG_IN,
         }
     }
 }
