@@ -1,7 +1,7 @@
 -- The data moves of the script, by a test of all its instructions.
 use Rattle.std.proofs.Common.{◌≡◌, ℕ, ℤ, pos, negsuc, zero, suc, ◌*◌, ◌<◌, ◌⊎◌, inl, inr, Bool, true, false, ◌&&◌, not, nat_eq, Option, Some, None, refl, ap, arith}
 use Rattle.std.specs.Prelude.{if◌then◌else◌, slice_index_or}
-use Rattle.std.proofs.lemmas.Bool.{cases_order, false≢true}
+use Rattle.std.proofs.lemmas.Bool.{and_parts, cases_order, false≢true}
 use Rattle.std.proofs.lemmas.Bool.Decides.{nat_tests}
 use Rattle.scripts_ops.specs.declared.values.Op.{Op}
 use Rattle.scripts_ops.specs.declared.values.Op.TheVariants.{Jump, Nop}
@@ -33,11 +33,6 @@ all_agree : all_below 151 test ≡ true
 unfolding data_move
 all_agree = refl
 
-both : (a b : Bool) → a && b ≡ true → (a ≡ true) × (b ≡ true)
-both true true h = (refl, refl)
-both true false h = absurd (false≢true h)
-both false b h = absurd (false≢true h)
-
 below_or : (n k : ℕ) (t : ℕ → Bool) → (t n ≡ true) × (all_below n t ≡ true) → (k < n → t k ≡ true) → (k ≡ n) ⊎ ((k < n) ⊎ (n < k)) → k < suc n → t k ≡ true
 below_or n k t h rest (inl e) b = rw e h.0
 below_or n k t h rest (inr (inl l)) b = rest l
@@ -46,7 +41,7 @@ below_or n k t h rest (inr (inr l)) b = absurd (omega arith)
 below : (n k : ℕ) (t : ℕ → Bool) → all_below n t ≡ true → k < n → t k ≡ true
 below zero k t h b = absurd (omega arith)
 below (suc n) k t h b =
-    let all = both (t n) (all_below n t) h in
+    let all = and_parts (t n) (all_below n t) h in
     below_or n k t all (λ l. below n k t all.1 l) (cases_order k n) b
 
 -- the one instruction in which the versions differ moves no data
@@ -60,7 +55,7 @@ at_188 = refl
 
 changed : (k version : ℕ) → nat_eq k 0x31 && nat_eq version 2 ≡ true → agrees (data_move (8 * k)) (Jump Always 0x460) ≡ true
 changed k version h =
-    let e : k ≡ 0x31 = grind (arith, nat_tests, both (nat_eq k 0x31) (nat_eq version 2) h) in
+    let e : k ≡ 0x31 = grind (arith, nat_tests, and_parts (nat_eq k 0x31) (nat_eq version 2) h) in
     rw (e, at_188) refl
 
 agree_at : (k version : ℕ) → k < 151 → agrees (data_move (8 * k)) (instruction k version) ≡ true
@@ -86,7 +81,7 @@ same_move-is None None h = refl
 same_move-is None (Some y) h = absurd (false≢true h)
 same_move-is (Some x) None h = absurd (false≢true h)
 same_move-is (Some x) (Some y) h =
-    let f = both (same_offset x.0 y.0) (nat_eq x.1 y.1) h in
+    let f = and_parts (same_offset x.0 y.0) (nat_eq x.1 y.1) h in
     let e : x.1 ≡ y.1 = grind (arith, nat_tests, f.1) in
     ap Some (same_pair x.0 y.0 x.1 y.1 (same_offset-is x.0 y.0 f.0) e)
 
@@ -99,8 +94,8 @@ has_data_moves =
     record {
       by_table = λ k version h.
           let op = instruction k version in
-          same_move-is (entry_moved op) (data_move (8 * k)) (both (same_move (entry_moved op) (data_move (8 * k))) (not (moves_directly op)) (agree_at k version h)).0;
+          same_move-is (entry_moved op) (data_move (8 * k)) (and_parts (same_move (entry_moved op) (data_move (8 * k))) (not (moves_directly op)) (agree_at k version h)).0;
       none_directly = λ k version h.
           let op = instruction k version in
-          not-is (moves_directly op) (both (same_move (entry_moved op) (data_move (8 * k))) (not (moves_directly op)) (agree_at k version h)).1;
+          not-is (moves_directly op) (and_parts (same_move (entry_moved op) (data_move (8 * k))) (not (moves_directly op)) (agree_at k version h)).1;
     }

@@ -2,7 +2,7 @@
 use Rattle.std.proofs.Common.{◌≡◌, ℕ, zero, suc, ◌/◌, ◌%◌, ◌<◌, Bool, true, false, ◌&&◌, nat_eq, List, [], ◌∷◌, get_or, refl, ◌∙◌, arith}
 use Rattle.std.specs.Prelude.{if◌then◌else◌, slice_index, slice_index_or, unwrap_or}
 use Rattle.std.proofs.lemmas.Bool.Decides.{nat_tests}
-use Rattle.std.proofs.lemmas.Bool.{false≢true}
+use Rattle.std.proofs.lemmas.Bool.{and_parts, false≢true}
 use Rattle.scripts_ops.specs.Table.{row}
 use Rattle.scripts_ops.specs.declared.values.Op.{Op}
 use Rattle.scripts_ops.specs.declared.values.Op.TheVariants.{Jump, Nop}
@@ -19,18 +19,13 @@ have_words [] [] = true
 have_words (op ∷ ops) (ws ∷ wss) = has_words op ws && have_words ops wss
 have_words ops wss = false
 
-both : (a b : Bool) → a && b ≡ true → (a ≡ true) × (b ≡ true)
-both true true h = (refl, refl)
-both true false h = absurd (false≢true h)
-both false b h = absurd (false≢true h)
-
 -- a place behind both lists has NOP and its words
 words_at : (ops : List Op) (wss : List (ℕ × ℕ)) (k : ℕ) → have_words ops wss ≡ true → has_words (get_or ops k Nop) (get_or wss k (0x80000000, 0x0)) ≡ true
 words_at [] [] k h = refl
 words_at [] (ws ∷ wss) k h = absurd (false≢true h)
 words_at (op ∷ ops) [] k h = absurd (false≢true h)
-words_at (op ∷ ops) (ws ∷ wss) zero h = (both (has_words op ws) (have_words ops wss) h).0
-words_at (op ∷ ops) (ws ∷ wss) (suc k) h = words_at ops wss k (both (has_words op ws) (have_words ops wss) h).1
+words_at (op ∷ ops) (ws ∷ wss) zero h = (and_parts (has_words op ws) (have_words ops wss) h).0
+words_at (op ∷ ops) (ws ∷ wss) (suc k) h = words_at ops wss k (and_parts (has_words op ws) (have_words ops wss) h).1
 
 either : (b : Bool) (x y : Op) (v w : ℕ × ℕ) → has_words x v ≡ true → has_words y w ≡ true → has_words (if b then x else y) (if b then v else w) ≡ true
 either true x y v w hx hy = hx
@@ -58,7 +53,7 @@ unfolding image printed_word
 image-printed n version =
     let op = instruction (n / 2) version in
     let ws = printed (n / 2) version in
-    let h = both (nat_eq (row op).first ws.0) (nat_eq (row op).second ws.1) (instruction_printed (n / 2) version) in
+    let h = and_parts (nat_eq (row op).first ws.0) (nat_eq (row op).second ws.1) (instruction_printed (n / 2) version) in
     let first = same (row op).first ws.0 h.0 in
     let second = same (row op).second ws.1 h.1 in
     word_of (row op).first (row op).second (unwrap_or (row op).third 0) (n % 2) (omega arith) ∙ rw (first, second) refl

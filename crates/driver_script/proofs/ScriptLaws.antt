@@ -2,7 +2,7 @@
 use Rattle.std.proofs.Common.{◌≡◌, ◌≢◌, ℕ, zero, suc, ℤ, pos, negsuc, ◌+◌, ◌*◌, ◌/◌, ◌%◌, ◌^◌, ◌<◌, ◌≤◌, ◌⊎◌, inl, inr, Bool, true, false, ◌&&◌, ◌||◌, not, nat_eq, nat_lt, nat_le, IsTrue, Option, None, List, [], ◌∷◌, length, get_or, refl, ◌∙◌, arith}
 use Rattle.std.specs.Prelude.{if◌then◌else◌, bit_and, slice_index, slice_index_or, unwrap_or}
 use Rattle.std.proofs.lemmas.Bool.Decides.{nat_tests}
-use Rattle.std.proofs.lemmas.Bool.{cases_order, false≢true}
+use Rattle.std.proofs.lemmas.Bool.{and_parts, cases_order, false≢true}
 use Rattle.bench_words.specs.Memory.{word_at, put_word}
 use Rattle.bench_words.specs.Views.{WroteWithin}
 use Rattle.bench_words.proofs.MemoryLaws.{length-put_word, word_same, word_apart}
@@ -68,11 +68,6 @@ abbrev all_fit : List Op → Bool
 all_fit [] = true
 all_fit (op ∷ ops) = (fits op && words_fit op) && all_fit ops
 
-both : (a b : Bool) → a && b ≡ true → (a ≡ true) × (b ≡ true)
-both true true h = (refl, refl)
-both true false h = absurd (false≢true h)
-both false b h = absurd (false≢true h)
-
 below : (a b : ℕ) → nat_lt a b ≡ true → a < b
 below a b h = grind (arith, nat_tests)
 
@@ -87,8 +82,8 @@ other a b h = grind (arith, nat_tests)
 
 phase : (p : ℕ) → phase_fits p ≡ true → IsPhase p
 phase p h =
-    let l = both (nat_lt p 8 && not (nat_eq p 4)) (not (nat_eq p 5)) h in
-    let m = both (nat_lt p 8) (not (nat_eq p 4)) l.0 in
+    let l = and_parts (nat_lt p 8 && not (nat_eq p 4)) (not (nat_eq p 5)) h in
+    let m = and_parts (nat_lt p 8) (not (nat_eq p 4)) l.0 in
     (below p 8 m.0, other p 4 m.1, other p 5 l.1)
 
 offset : (o : ℤ) → offset_fits o ≡ true → IsOffset o
@@ -99,14 +94,14 @@ condition : (on : Condition) → condition_fits on ≡ true → IsCondition on
 condition Always h = tt
 condition (Phase when not code) h = phase code h
 condition (Byte not mask value) h =
-    let l = both (nat_lt mask 256 && nat_lt value 256) (nat_eq (bit_and mask value) 0) h in
-    let m = both (nat_lt mask 256) (nat_lt value 256) l.0 in
+    let l = and_parts (nat_lt mask 256 && nat_lt value 256) (nat_eq (bit_and mask value) 0) h in
+    let m = and_parts (nat_lt mask 256) (nat_lt value 256) l.0 in
     (below mask 256 m.0, below value 256 m.1, same (bit_and mask value) 0 l.1)
 
 part : (r n : ℕ) → part_fits r n ≡ true → IsPart r n
 part r n h =
-    let l = both (is_wide r && nat_lt 0 n) (nat_le (r % 4 + n) 4) h in
-    let m = both (is_wide r) (nat_lt 0 n) l.0 in
+    let l = and_parts (is_wide r && nat_lt 0 n) (nat_le (r % 4 + n) 4) h in
+    let m = and_parts (is_wide r) (nat_lt 0 n) l.0 in
     (m.0, below 0 n m.1, most (r % 4 + n) 4 l.1)
 
 address : (place : Address) → address_fits place ≡ true → IsAddress place
@@ -115,23 +110,23 @@ address (FromDsa o) h = offset o h
 
 register : (r d : ℕ) → is_written r && not (nat_eq r 8) && nat_lt d 256 ≡ true → IsTrue (is_written r) × (r ≢ 8) × (d < 256)
 register r d h =
-    let l = both (is_written r && not (nat_eq r 8)) (nat_lt d 256) h in
-    let m = both (is_written r) (not (nat_eq r 8)) l.0 in
+    let l = and_parts (is_written r && not (nat_eq r 8)) (nat_lt d 256) h in
+    let m = and_parts (is_written r) (not (nat_eq r 8)) l.0 in
     (m.0, other r 8 m.1, below d 256 l.1)
 
 fields : (op : Op) → fits op ≡ true → (row op).fields
 fields (Move n a p) h =
-    let l = both (phase_fits p && nat_lt 0 n) (nat_lt n 16777216) h in
-    let m = both (phase_fits p) (nat_lt 0 n) l.0 in
+    let l = and_parts (phase_fits p && nat_lt 0 n) (nat_lt n 16777216) h in
+    let m = and_parts (phase_fits p) (nat_lt 0 n) l.0 in
     (phase p m.0, below 0 n m.1, below n 16777216 l.1)
-fields (MoveFrom o p) h = let l = both (phase_fits p) (offset_fits o) h in (phase p l.0, offset o l.1)
+fields (MoveFrom o p) h = let l = and_parts (phase_fits p) (offset_fits o) h in (phase p l.0, offset o l.1)
 fields (Select o a) h = offset o h
 fields WaitDisconnect h = tt
 fields (WaitReselect a) h = tt
 fields (Set ack atn) h = h
 fields (Clear ack atn) h = h
 fields (FromSfbr c d r) h = register r d h
-fields (ToSfbr r c d) h = let l = both (is_read r) (nat_lt d 256) h in (l.0, below d 256 l.1)
+fields (ToSfbr r c d) h = let l = and_parts (is_read r) (nat_lt d 256) h in (l.0, below d 256 l.1)
 fields (Modify r c d) h = register r d h
 fields (Put d r) h = absurd (false≢true h)
 fields (Jump on a) h = condition on h
@@ -141,8 +136,8 @@ fields (Int on v) h = condition on h
 fields (IntFly on) h = condition on h
 fields Nop h = tt
 fields (MoveMemory n u t) h = absurd (false≢true h)
-fields (Load r n place) h = let l = both (part_fits r n) (address_fits place) h in (part r n l.0, address place l.1)
-fields (Store r n place) h = let l = both (part_fits r n) (address_fits place) h in (part r n l.0, address place l.1)
+fields (Load r n place) h = let l = and_parts (part_fits r n) (address_fits place) h in (part r n l.0, address place l.1)
+fields (Store r n place) h = let l = and_parts (part_fits r n) (address_fits place) h in (part r n l.0, address place l.1)
 
 two_words : (op : Op) → fits op ≡ true → (row op).third ≡ None
 two_words (Move n a p) h = refl
@@ -170,8 +165,8 @@ two_words (Store r n place) h = refl
 
 fit_at : (ops : List Op) (k : ℕ) → all_fit ops ≡ true → fits (get_or ops k Nop) && words_fit (get_or ops k Nop) ≡ true
 fit_at [] k h = refl
-fit_at (op ∷ ops) zero h = (both (fits op && words_fit op) (all_fit ops) h).0
-fit_at (op ∷ ops) (suc k) h = fit_at ops k (both (fits op && words_fit op) (all_fit ops) h).1
+fit_at (op ∷ ops) zero h = (and_parts (fits op && words_fit op) (all_fit ops) h).0
+fit_at (op ∷ ops) (suc k) h = fit_at ops k (and_parts (fits op && words_fit op) (all_fit ops) h).1
 
 either : (b : Bool) (x y : Op) → fits x && words_fit x ≡ true → fits y && words_fit y ≡ true → fits (if b then x else y) && words_fit (if b then x else y) ≡ true
 either true x y hx hy = hx
@@ -184,7 +179,7 @@ instruction_fits k version =
 
 pub instruction_fields : (k version : ℕ) → (row (instruction k version)).fields
 instruction_fields k version =
-    fields (instruction k version) (both (fits (instruction k version)) (words_fit (instruction k version)) (instruction_fits k version)).0
+    fields (instruction k version) (and_parts (fits (instruction k version)) (words_fit (instruction k version)) (instruction_fits k version)).0
 
 -- ---- its words
 
@@ -203,7 +198,7 @@ script_spelled k version w2 =
     let r0 : 2 * k % 2 ≡ 0 = omega arith in
     let r1 : (2 * k + 1) % 2 ≡ 1 = omega arith in
     let two : (row (instruction k version)).third ≡ None =
-    two_words (instruction k version) (both (fits (instruction k version)) (words_fit (instruction k version)) (instruction_fits k version)).0 in
+    two_words (instruction k version) (and_parts (fits (instruction k version)) (words_fit (instruction k version)) (instruction_fits k version)).0 in
     rw (h0, h1, r0, r1)
     (record { fields = instruction_fields k version; first = refl; second = refl; third = rw two tt })
 
@@ -245,8 +240,8 @@ pub image-most : (n version : ℕ) → image n version < 2 ^ 32
 unfolding image
 image-most n version =
     let op : Op = instruction (n / 2) version in
-    let f = (both (fits op) (words_fit op) (instruction_fits (n / 2) version)).1 in
-    let l = both (nat_lt (row op).first 4294967296) (nat_lt (row op).second 4294967296) f in
+    let f = (and_parts (fits op) (words_fit op) (instruction_fits (n / 2) version)).1 in
+    let l = and_parts (nat_lt (row op).first 4294967296) (nat_lt (row op).second 4294967296) f in
     word_fits (row op).first (row op).second (n % 2) (row op).third (omega arith) (below (row op).first 4294967296 l.0) (below (row op).second 4294967296 l.1)
 
 last_or : (m : List ℕ) (version n k : ℕ) → 4 * suc n ≤ length m → k < suc n → (k < n → word_at (laid m version n) (4 * k) ≡ image k version) → (k ≡ n) ⊎ ((k < n) ⊎ (n < k)) → word_at (put_word (laid m version n) (4 * n) (image n version)) (4 * k) ≡ image k version

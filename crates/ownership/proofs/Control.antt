@@ -1,7 +1,7 @@
 -- An instruction that is no data move reads and writes only among the words of control.
 use Rattle.std.proofs.Common.{◌≡◌, ℕ, ℤ, pos, negsuc, ◌+◌, ◌-◌, ◌*◌, ◌<◌, ◌≤◌, inl, inr, Bool, true, false, ◌&&◌, ◌||◌, nat_eq, nat_le, Option, Some, None, List, [], ◌∷◌, ◌++◌, length, refl, subst, sym, arith}
 use Rattle.std.specs.Prelude.{if◌then◌else◌, slice_index_or}
-use Rattle.std.proofs.lemmas.Bool.{false≢true}
+use Rattle.std.proofs.lemmas.Bool.{and_parts, false≢true}
 use Rattle.std.proofs.lemmas.Bool.Decides.{nat_tests}
 use Rattle.scripts_ops.specs.declared.values.Address.{Address}
 use Rattle.scripts_ops.specs.declared.values.Address.TheVariants.{At, FromDsa}
@@ -19,7 +19,7 @@ use Rattle.driver_script.specs.declared.script.TheConstants.{SCRIPT}
 use Rattle.driver_script.specs.Moves.{data_move}
 use Rattle.driver_script.specs.Script.{instruction}
 use Rattle.ownership.specs.Control.{control, named_by, ChangesControl, ReadsControl}
-use Rattle.ownership.proofs.Instructions.{all_below, both, below}
+use Rattle.ownership.proofs.Instructions.{all_below, below}
 use Rattle.ownership.proofs.Footprint.{wider, shorter, in_memory}
 use Rattle.ownership.proofs.Steps.{stands_at, can}
 
@@ -130,7 +130,7 @@ module _ {B : Type 0} (chip : Chip B) (left x : ℕ) where
 
   fixed_in : (n a : ℕ) → fixed n a ≡ true → IsIn (range a n) x → Here
   fixed_in n a t (inl i) =
-      let b = both (nat_le 0x1000 a) (nat_le (a + n) 0x1034) t in
+      let b = and_parts (nat_le 0x1000 a) (nat_le (a + n) 0x1034) t in
       let l = true_le 0x1000 a b.0 in
       let u = true_le (a + n) 0x1034 b.1 in
       inl (omega (arith, i.0), omega (arith, i.1))

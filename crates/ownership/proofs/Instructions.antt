@@ -1,7 +1,7 @@
 -- Each instruction of the script, by a test of all: its place in the footprint, and that it has two words.
 use Rattle.std.proofs.Common.{◌≡◌, ℕ, ℤ, pos, negsuc, zero, suc, ◌*◌, ◌<◌, ◌⊎◌, inl, inr, Bool, true, false, ◌&&◌, not, nat_eq, refl, ap, arith}
 use Rattle.std.specs.Prelude.{if◌then◌else◌, slice_index_or}
-use Rattle.std.proofs.lemmas.Bool.{cases_order, false≢true}
+use Rattle.std.proofs.lemmas.Bool.{and_parts, cases_order, false≢true}
 use Rattle.std.proofs.lemmas.Bool.Decides.{nat_tests}
 use Rattle.scripts_ops.specs.Table.{row}
 use Rattle.scripts_ops.specs.declared.values.Op.{Op}
@@ -53,11 +53,6 @@ all_agree : all_below 151 test ≡ true
 unfolding footprint data_move
 all_agree = refl
 
-pub both : (a b : Bool) → a && b ≡ true → (a ≡ true) × (b ≡ true)
-both true true h = (refl, refl)
-both true false h = absurd (false≢true h)
-both false b h = absurd (false≢true h)
-
 below_or : (n k : ℕ) (t : ℕ → Bool) → (t n ≡ true) × (all_below n t ≡ true) → (k < n → t k ≡ true) → (k ≡ n) ⊎ ((k < n) ⊎ (n < k)) → k < suc n → t k ≡ true
 below_or n k t h rest (inl e) b = rw e h.0
 below_or n k t h rest (inr (inl l)) b = rest l
@@ -66,7 +61,7 @@ below_or n k t h rest (inr (inr l)) b = absurd (omega arith)
 pub below : (n k : ℕ) (t : ℕ → Bool) → all_below n t ≡ true → k < n → t k ≡ true
 below zero k t h b = absurd (omega arith)
 below (suc n) k t h b =
-    let all = both (t n) (all_below n t) h in
+    let all = and_parts (t n) (all_below n t) h in
     below_or n k t all (λ l. below n k t all.1 l) (cases_order k n) b
 
 -- the one instruction in which the versions differ writes nothing
@@ -80,7 +75,7 @@ at_188 = refl
 
 changed : (k version : ℕ) → nat_eq k 0x31 && nat_eq version 2 ≡ true → agrees (footprint (8 * k)) (Jump Always 0x460) ≡ true
 changed k version h =
-    let e : k ≡ 0x31 = grind (arith, nat_tests, both (nat_eq k 0x31) (nat_eq version 2) h) in
+    let e : k ≡ 0x31 = grind (arith, nat_tests, and_parts (nat_eq k 0x31) (nat_eq version 2) h) in
     rw (e, at_188) refl
 
 agree_at : (k version : ℕ) → k < 151 → agrees (footprint (8 * k)) (instruction k version) ≡ true
@@ -111,14 +106,14 @@ same_place-is Nowhere (Relative m p) h = absurd (false≢true h)
 same_place-is Nowhere (Entry p) h = absurd (false≢true h)
 same_place-is (Fixed n a) Nowhere h = absurd (false≢true h)
 same_place-is (Fixed n a) (Fixed m b) h =
-    let e = both (nat_eq n m) (nat_eq a b) h in
+    let e = and_parts (nat_eq n m) (nat_eq a b) h in
     fixed n m a b (same-is n m e.0) (same-is a b e.1)
 same_place-is (Fixed n a) (Relative m p) h = absurd (false≢true h)
 same_place-is (Fixed n a) (Entry p) h = absurd (false≢true h)
 same_place-is (Relative n o) Nowhere h = absurd (false≢true h)
 same_place-is (Relative n o) (Fixed m b) h = absurd (false≢true h)
 same_place-is (Relative n o) (Relative m p) h =
-    let e = both (nat_eq n m) (same_offset o p) h in
+    let e = and_parts (nat_eq n m) (same_offset o p) h in
     relative n m o p (same-is n m e.0) (same_offset-is o p e.1)
 same_place-is (Relative n o) (Entry p) h = absurd (false≢true h)
 same_place-is (Entry o) Nowhere h = absurd (false≢true h)
@@ -133,9 +128,9 @@ not-is false h = refl
 pub written_as : (k version : ℕ) → k < 151 → written_by (instruction k version) ≡ footprint (8 * k)
 written_as k version h =
     let op = instruction k version in
-    same_place-is (written_by op) (footprint (8 * k)) (both (same_place (written_by op) (footprint (8 * k))) (not (has_third (row op).first)) (agree_at k version h)).0
+    same_place-is (written_by op) (footprint (8 * k)) (and_parts (same_place (written_by op) (footprint (8 * k))) (not (has_third (row op).first)) (agree_at k version h)).0
 
 pub two_words : (k version : ℕ) → k < 151 → has_third (row (instruction k version)).first ≡ false
 two_words k version h =
     let op = instruction k version in
-    not-is (has_third (row op).first) (both (same_place (written_by op) (footprint (8 * k))) (not (has_third (row op).first)) (agree_at k version h)).1
+    not-is (has_third (row op).first) (and_parts (same_place (written_by op) (footprint (8 * k))) (not (has_third (row op).first)) (agree_at k version h)).1

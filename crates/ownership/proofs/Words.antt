@@ -1,7 +1,7 @@
 -- Each LOAD and STORE of the script moves one word of a wide register, by a test of all.
 use Rattle.std.proofs.Common.{◌≡◌, ℕ, pos, negsuc, ◌+◌, ◌%◌, ◌<◌, ◌≤◌, Bool, true, false, ◌&&◌, ◌||◌, nat_eq, nat_le, List, length, refl, sym, subst, arith}
 use Rattle.std.specs.Prelude.{if◌then◌else◌, slice_index_or}
-use Rattle.std.proofs.lemmas.Bool.{false≢true}
+use Rattle.std.proofs.lemmas.Bool.{and_parts, false≢true}
 use Rattle.std.proofs.lemmas.Bool.Decides.{nat_tests}
 use Rattle.bench_words.specs.Bytes.{IsBytes}
 use Rattle.bench_words.specs.Memory.{put_word}
@@ -22,7 +22,7 @@ use Rattle.chip_rows.proofs.Words as rows
 use Rattle.driver_script.specs.declared.script.TheConstants.{SCRIPT}
 use Rattle.driver_script.specs.Script.{instruction}
 use Rattle.ownership.specs.Words.{IsReached, place_from, LoadedWord, StoredWord, LoadsWord, StoresWord}
-use Rattle.ownership.proofs.Instructions.{all_below, both, below}
+use Rattle.ownership.proofs.Instructions.{all_below, below}
 use Rattle.ownership.proofs.Steps.{is_row}
 
 -- ---- the test
@@ -88,18 +88,18 @@ wide-is r t =
 
 word_place : (m : List ℕ) (dsa : ℕ) (place : Address) → length m ≡ 0x400000 → IsReached place dsa → placed place ≡ true → IsWordAt m dsa place (place_from dsa place)
 word_place m dsa (At a) s h t =
-    let b = both (nat_eq (a % 4) 0) (nat_le (a + 4) 0x400000) t in
+    let b = and_parts (nat_eq (a % 4) 0) (nat_le (a + 4) 0x400000) t in
     rows.finds_words.absolute m dsa a (sym (same (a % 4) 0 b.0)) (omega (arith, s, most (a + 4) 0x400000 b.1))
 word_place m dsa (FromDsa (pos o)) s h t =
-    let b = both (nat_eq (o % 4) 0) (nat_le (o + 4) 0xE0) t in
+    let b = and_parts (nat_eq (o % 4) 0) (nat_le (o + 4) 0xE0) t in
     rows.finds_words.from_dsa m dsa o (omega (arith, h.aligned, same (o % 4) 0 b.0)) (omega (arith, s, h.inside, most (o + 4) 0xE0 b.1))
 word_place m dsa (FromDsa (negsuc o)) s h t = absurd (false≢true t)
 
 module _ {B : Type 0} where
   loads : (r n : ℕ) (place : Address) (old : Chip B) (end : StepEnd) (new : Chip B) → length old.memory ≡ 0x400000 → IsBytes old.memory → IsReached place old.regs.dsa → moves_word r n place ≡ true → Loads r n place (after_fetch old) end new → LoadedWord r place old end new
   loads r n place old end new s bytes h t d =
-      let w = both (wide r && nat_eq n 4) (placed place) t in
-      let v = both (wide r) (nat_eq n 4) w.0 in
+      let w = and_parts (wide r && nat_eq n 4) (placed place) t in
+      let v = and_parts (wide r) (nat_eq n 4) w.0 in
       let x : Named r = wide-is r v.0 in
       let four : Loads r 4 place (after_fetch old) end new = subst (λ (i : ℕ). Loads r i place (after_fetch old) end new) (sym (same n 4 v.1)) d in
       let here : Loads (base_of x.register) 4 place (after_fetch old) end new = subst (λ (i : ℕ). Loads i 4 place (after_fetch old) end new) (sym x.named) four in
@@ -118,8 +118,8 @@ module _ {B : Type 0} where
 
   stores : (r n : ℕ) (place : Address) (old : Chip B) (end : StepEnd) (new : Chip B) → length old.memory ≡ 0x400000 → IsReached place old.regs.dsa → moves_word r n place ≡ true → Stores r n place (after_fetch old) end new → StoredWord r place old end new
   stores r n place old end new s h t d =
-      let w = both (wide r && nat_eq n 4) (placed place) t in
-      let v = both (wide r) (nat_eq n 4) w.0 in
+      let w = and_parts (wide r && nat_eq n 4) (placed place) t in
+      let v = and_parts (wide r) (nat_eq n 4) w.0 in
       let x : Named r = wide-is r v.0 in
       let four : Stores r 4 place (after_fetch old) end new = subst (λ (i : ℕ). Stores r i place (after_fetch old) end new) (sym (same n 4 v.1)) d in
       let here : Stores (base_of x.register) 4 place (after_fetch old) end new = subst (λ (i : ℕ). Stores i 4 place (after_fetch old) end new) (sym x.named) four in
