@@ -40,7 +40,7 @@ pub(crate) struct Room {
 }
 
 /// How many bytes the segments from this one on have.
-#[tactic(auto, using(crate::proofs::Remaining::one_more, crate::proofs::Remaining::none_left, crate::proofs::Remaining::command_place))]
+#[tactic(auto, using(crate::proofs::DataPointers::one_more, crate::proofs::DataPointers::none_left, crate::proofs::DataPointers::command_place))]
 fn segment_bytes(words: &Words, block: u32, first: u8) -> u32
     requires memory { length words.now ≡ 0x400000 }
     requires block { IsCommandBlock block }
@@ -71,7 +71,7 @@ fn first_segment(found: Option<DataMove>) -> u8
 }
 
 /// How many bytes a data pointer says are still to be moved.
-#[tactic(auto, using(crate::proofs::Remaining::of_context, crate::proofs::Remaining::command_place))]
+#[tactic(auto, using(crate::proofs::DataPointers::of_context, crate::proofs::DataPointers::command_place))]
 fn remaining(words: &Words, block: u32, pointer: u32) -> u32
     requires memory { length words.now ≡ 0x400000 }
     requires block { IsCommandBlock block }
