@@ -20,7 +20,8 @@ use Rattle.scripts_asm.specs.declared.faults.Kind.{Kind}
 use Rattle.scripts_asm.specs.declared.faults.Kind.TheVariants as kinds
 use Rattle.scripts_asm.specs.Assembled.{Givings, numbers, numbers_of, fits_in, value_of, all_known, has_bad_form, has_wide, has_unknown, is_bad_token, is_twice, names_given, fault_by}
 use Rattle.scripts_forms.specs.Lines.{Line, Body, Nothing, Absolute, Instruction, BadToken, BadForm}
-use Rattle.scripts_asm.specs.Ops.{Numbers, number_at, at, allowed, op_of, AllFit, Fits, AreBytes, is_phase, is_count, is_part, allowed_on, is_clear, allowed_change, condition_of, change_of, place_of}
+use Rattle.scripts_ops.specs.Fields.{is_phase}
+use Rattle.scripts_asm.specs.Ops.{Numbers, number_at, at, allowed, op_of, AllFit, Fits, AreBytes, is_count, is_part, allowed_on, is_clear, allowed_change, condition_of, change_of, place_of}
 
 -- the greatest value of the k-th value
 abbrev hole : List Item → ℕ → ℕ

@@ -1,6 +1,6 @@
 -- Which values a form may have, and the instruction that they make. Source: own; the ranges are those of the
 -- instruction table.
-use Rattle.std.specs.Prelude.{◌≡◌, ℕ, ◌+◌, ◌%◌, ◌<◌, nat_eq, nat_le, nat_lt, Bool, true, false, not, ◌&&◌, ◌||◌, if◌then◌else◌, List, [], ◌∷◌, ◌++◌, drop, Option, Some, None, unwrap_or, slice_get, bit_and}
+use Rattle.std.specs.Prelude.{◌≡◌, ℕ, ◌+◌, ◌%◌, ◌<◌, nat_eq, nat_le, Bool, true, false, not, ◌&&◌, if◌then◌else◌, List, [], ◌∷◌, ◌++◌, drop, Option, Some, None, unwrap_or, slice_get, bit_and}
 use Rattle.scripts_ops.specs.declared.values.Op.{Op}
 use Rattle.scripts_ops.specs.declared.values.Op.TheVariants as ops
 use Rattle.scripts_ops.specs.declared.values.Condition.{Condition}
@@ -9,6 +9,7 @@ use Rattle.scripts_ops.specs.declared.values.Change.{Change}
 use Rattle.scripts_ops.specs.declared.values.Address.{Address}
 use Rattle.scripts_ops.specs.declared.values.Address.TheVariants.{At, FromDsa}
 use Rattle.scripts_ops.specs.Table.{row, is_wide, is_written, is_read}
+use Rattle.scripts_ops.specs.Fields.{is_phase}
 use Rattle.scripts_ops.specs.Guess.{offset_of}
 use Rattle.scripts_forms.specs.declared.shapes.On.{On}
 use Rattle.scripts_forms.specs.declared.shapes.On.TheVariants as ons
@@ -30,9 +31,6 @@ at ns i = unwrap_or (slice_get ns i) (Some 0)
 
 abbrev pub number_at : Numbers → ℕ → ℕ
 number_at ns i = unwrap_or (at ns i) 0
-
-abbrev pub is_phase : ℕ → Bool
-is_phase p = nat_lt p 8 && not (nat_eq p 4 || nat_eq p 5)
 
 -- The masked bits of a value are 0.
 abbrev pub is_clear : Option ℕ → Option ℕ → Bool

@@ -1,13 +1,16 @@
 //! Whether an instruction's fields are in the ranges of its row of the table.
 ghost use Rattle.std.specs.Prelude.{◌≡◌, ℕ, ◌↔◌, ◌≤◌, ◌<◌, IsTrue};
 ghost use Rattle.scripts_ops.specs.Table.{row, IsOffset, IsPhase, IsCondition, IsPart, IsAddress, is_wide, is_written, is_read};
+ghost use Rattle.scripts_ops.specs.Fields.{is_phase};
 
 use crate::values::{Address, Condition, Op};
 
-fn is_phase(code: u8) -> bool
-    ensures { IsTrue result ↔ IsPhase code }
+/// Whether a phase has this code: one below 8 but 4 and 5.
+pub fn is_phase(code: u8) -> bool
+    ensures phase { IsTrue result ↔ IsPhase code }
+    ensures test { result ≡ is_phase code }
 {
-    code < 8 && code != 4 && code != 5
+    code < 8 && !(code == 4 || code == 5)
 }
 
 fn is_offset(offset: i32) -> bool
@@ -26,19 +29,22 @@ fn is_condition(on: Condition) -> bool
     }
 }
 
-fn is_wide(r: u8) -> bool
+/// Whether a register of four bytes has this place.
+pub fn is_wide(r: u8) -> bool
     ensures { result ≡ is_wide r }
 {
     matches!(r, 0x10..=0x13 | 0x1c..=0x1f | 0x34..=0x37 | 0x5c..=0x5f)
 }
 
-fn is_written(r: u8) -> bool
+/// Whether a register form writes this place.
+pub fn is_written(r: u8) -> bool
     ensures { result ≡ is_written r }
 {
     matches!(r, 0x00 | 0x03 | 0x05 | 0x06 | 0x08) || is_wide(r)
 }
 
-fn is_read(r: u8) -> bool
+/// Whether a register form reads this place.
+pub fn is_read(r: u8) -> bool
     ensures { result ≡ is_read r }
 {
     is_written(r) || r == 0x0a || r == 0x1a

@@ -11,5 +11,6 @@ mod values;
 
 pub use decoding::decode;
 pub use encoding::{Spelling, encode};
-pub use fields::has_fields;
+pub use fields::{has_fields, is_phase, is_read, is_wide, is_written};
+pub use guessing::offset_at;
 pub use values::{Address, Change, Condition, Op};
