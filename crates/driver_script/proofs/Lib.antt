@@ -1,3 +1,4 @@
 pub mod MoveLaws
 pub mod PrintedLaws
 pub mod ScriptLaws
+pub mod ScriptTests

@@ -19,7 +19,7 @@ use Rattle.driver_script.specs.declared.script.TheConstants.{SCRIPT}
 use Rattle.driver_script.specs.Moves.{data_move}
 use Rattle.driver_script.specs.Script.{instruction}
 use Rattle.ownership.specs.Control.{control, named_by, ChangesControl, ReadsControl}
-use Rattle.ownership.proofs.Instructions.{all_below, below}
+use Rattle.driver_script.proofs.ScriptTests.{all_below, both_versions}
 use Rattle.ownership.proofs.Footprint.{wider, shorter, in_memory}
 use Rattle.ownership.proofs.Steps.{stands_at, can}
 
@@ -53,22 +53,21 @@ abbrev unless_data : Option (ℤ × ℕ) → Op → Bool
 unless_data None o = controls o
 unless_data (Some x) o = true
 
-abbrev test : ℕ → Bool
-test k = unless_data (data_move (8 * k)) (slice_index_or SCRIPT k op.Nop)
+abbrev passes : ℕ → Op → Bool
+passes k o = unless_data (data_move (8 * k)) o
 
-all_pass : all_below 151 test ≡ true
+all_pass : all_below 151 (λ k. passes k (slice_index_or SCRIPT k op.Nop)) ≡ true
 unfolding data_move
 all_pass = refl
 
-either : (b : Bool) (x y : Op) → controls x ≡ true → controls y ≡ true → controls (if b then x else y) ≡ true
-either true x y hx hy = hx
-either false x y hx hy = hy
+at_188 : passes 0x31 (op.Jump Always 0x460) ≡ true
+unfolding data_move
+at_188 = refl
 
 controls_at : (k version : ℕ) → k < 151 → data_move (8 * k) ≡ None → controls (instruction k version) ≡ true
-unfolding instruction
 controls_at k version h none =
-    let t : unless_data (data_move (8 * k)) (slice_index_or SCRIPT k op.Nop) ≡ true = below 151 k test all_pass h in
-    either (nat_eq k 0x31 && nat_eq version 2) (op.Jump Always 0x460) (slice_index_or SCRIPT k op.Nop) refl (rw none at t)
+    let t : unless_data (data_move (8 * k)) (instruction k version) ≡ true = both_versions passes 151 all_pass at_188 k version h in
+    rw none at t
 
 -- ---- the ranges
 

@@ -1,7 +1,7 @@
 -- Each instruction of the script, by a test of all: its place in the footprint, and that it has two words.
-use Rattle.std.proofs.Common.{◌≡◌, ℕ, ℤ, pos, negsuc, zero, suc, ◌*◌, ◌<◌, ◌⊎◌, inl, inr, Bool, true, false, ◌&&◌, not, nat_eq, refl, ap, arith}
+use Rattle.std.proofs.Common.{◌≡◌, ℕ, ℤ, ◌*◌, ◌<◌, Bool, true, false, ◌&&◌, not, nat_eq, refl, ap, arith}
 use Rattle.std.specs.Prelude.{if◌then◌else◌, slice_index_or}
-use Rattle.std.proofs.lemmas.Bool.{and_parts, cases_order, false≢true}
+use Rattle.std.proofs.lemmas.Bool.{and_parts, false≢true}
 use Rattle.std.proofs.lemmas.Bool.Decides.{nat_tests}
 use Rattle.scripts_ops.specs.Table.{row}
 use Rattle.scripts_ops.specs.declared.values.Op.{Op}
@@ -14,6 +14,7 @@ use Rattle.chip_rows.specs.Touched.{is_in}
 use Rattle.driver_script.specs.declared.script.TheConstants.{SCRIPT}
 use Rattle.driver_script.specs.Script.{instruction}
 use Rattle.driver_script.specs.Moves.{data_move}
+use Rattle.driver_script.proofs.ScriptTests.{all_below, both_versions, same_offset, same_offset-is}
 use Rattle.ownership.specs.Footprint.{Place, Nowhere, Fixed, Relative, Entry, footprint}
 
 -- where an instruction writes
@@ -28,10 +29,6 @@ written_by (MoveMemory n s t) = Fixed n t
 written_by (Store r n place) = stored_at n place
 written_by _ = Nowhere
 
-abbrev same_offset : ℤ → ℤ → Bool
-same_offset (pos a) (pos b) = nat_eq a b
-same_offset a b = false
-
 abbrev same_place : Place → Place → Bool
 same_place Nowhere Nowhere = true
 same_place (Fixed n a) (Fixed m b) = nat_eq n m && nat_eq a b
@@ -42,53 +39,22 @@ same_place x y = false
 abbrev agrees : Place → Op → Bool
 agrees place op = same_place (written_by op) place && not (has_third (row op).first)
 
-abbrev test : ℕ → Bool
-test k = agrees (footprint (8 * k)) (slice_index_or SCRIPT k Nop)
+abbrev agrees_at : ℕ → Op → Bool
+agrees_at k op = agrees (footprint (8 * k)) op
 
-abbrev pub all_below : ℕ → (ℕ → Bool) → Bool
-all_below zero t = true
-all_below (suc n) t = t n && all_below n t
-
-all_agree : all_below 151 test ≡ true
+all_agree : all_below 151 (λ k. agrees_at k (slice_index_or SCRIPT k Nop)) ≡ true
 unfolding footprint data_move
 all_agree = refl
 
-below_or : (n k : ℕ) (t : ℕ → Bool) → (t n ≡ true) × (all_below n t ≡ true) → (k < n → t k ≡ true) → (k ≡ n) ⊎ ((k < n) ⊎ (n < k)) → k < suc n → t k ≡ true
-below_or n k t h rest (inl e) b = rw e h.0
-below_or n k t h rest (inr (inl l)) b = rest l
-below_or n k t h rest (inr (inr l)) b = absurd (omega arith)
-
-pub below : (n k : ℕ) (t : ℕ → Bool) → all_below n t ≡ true → k < n → t k ≡ true
-below zero k t h b = absurd (omega arith)
-below (suc n) k t h b =
-    let all = and_parts (t n) (all_below n t) h in
-    below_or n k t all (λ l. below n k t all.1 l) (cases_order k n) b
-
 -- the one instruction in which the versions differ writes nothing
-either : (b : Bool) (place : Place) (x y : Op) → (b ≡ true → agrees place x ≡ true) → agrees place y ≡ true → agrees place (if b then x else y) ≡ true
-either true place x y hx hy = hx refl
-either false place x y hx hy = hy
-
-at_188 : footprint (8 * 0x31) ≡ Nowhere
+at_188 : agrees_at 0x31 (Jump Always 0x460) ≡ true
 unfolding footprint data_move
 at_188 = refl
 
-changed : (k version : ℕ) → nat_eq k 0x31 && nat_eq version 2 ≡ true → agrees (footprint (8 * k)) (Jump Always 0x460) ≡ true
-changed k version h =
-    let e : k ≡ 0x31 = grind (arith, nat_tests, and_parts (nat_eq k 0x31) (nat_eq version 2) h) in
-    rw (e, at_188) refl
-
 agree_at : (k version : ℕ) → k < 151 → agrees (footprint (8 * k)) (instruction k version) ≡ true
-unfolding instruction
-agree_at k version h =
-    either (nat_eq k 0x31 && nat_eq version 2) (footprint (8 * k)) (Jump Always 0x460) (slice_index_or SCRIPT k Nop) (changed k version) (below 151 k test all_agree h)
+agree_at k version h = both_versions agrees_at 151 all_agree at_188 k version h
 
 -- ---- what it means
-
-same_offset-is : (a b : ℤ) → same_offset a b ≡ true → a ≡ b
-same_offset-is (pos a) (pos b) h = let e : a ≡ b = grind (arith, nat_tests) in ap pos e
-same_offset-is (pos a) (negsuc b) h = absurd (false≢true h)
-same_offset-is (negsuc a) b h = absurd (false≢true h)
 
 same-is : (a b : ℕ) → nat_eq a b ≡ true → a ≡ b
 same-is a b h = grind (arith, nat_tests)

@@ -1,13 +1,12 @@
 -- Each LOAD and STORE of the script moves one word of a wide register, by a test of all.
 use Rattle.std.proofs.Common.{◌≡◌, ℕ, pos, negsuc, ◌+◌, ◌%◌, ◌<◌, ◌≤◌, Bool, true, false, ◌&&◌, ◌||◌, nat_eq, nat_le, List, length, refl, sym, subst, arith}
-use Rattle.std.specs.Prelude.{if◌then◌else◌, slice_index_or}
+use Rattle.std.specs.Prelude.{slice_index_or}
 use Rattle.std.proofs.lemmas.Bool.{and_parts, false≢true}
 use Rattle.std.proofs.lemmas.Bool.Decides.{nat_tests}
 use Rattle.bench_words.specs.Bytes.{IsBytes}
 use Rattle.bench_words.specs.Memory.{put_word}
 use Rattle.scripts_ops.specs.declared.values.Address.{Address}
 use Rattle.scripts_ops.specs.declared.values.Address.TheVariants.{At, FromDsa}
-use Rattle.scripts_ops.specs.declared.values.Condition.TheVariants.{Always}
 use Rattle.scripts_ops.specs.declared.values.Op.{Op}
 use Rattle.scripts_ops.specs.declared.values.Op.TheVariants as op
 use Rattle.chip_regs.specs.Bytes.{Wide, Dsa, Temp, ScratchA, ScratchB, base_of, held}
@@ -22,7 +21,7 @@ use Rattle.chip_rows.proofs.Words as rows
 use Rattle.driver_script.specs.declared.script.TheConstants.{SCRIPT}
 use Rattle.driver_script.specs.Script.{instruction}
 use Rattle.ownership.specs.Words.{IsReached, place_from, LoadedWord, StoredWord, LoadsWord, StoresWord}
-use Rattle.ownership.proofs.Instructions.{all_below, below}
+use Rattle.driver_script.proofs.ScriptTests.{all_below, both_versions}
 use Rattle.ownership.proofs.Steps.{is_row}
 
 -- ---- the test
@@ -43,20 +42,11 @@ by_words (op.Load r n place) = moves_word r n place
 by_words (op.Store r n place) = moves_word r n place
 by_words _ = true
 
-abbrev test : ℕ → Bool
-test k = by_words (slice_index_or SCRIPT k op.Nop)
-
-all_pass : all_below 151 test ≡ true
+all_pass : all_below 151 (λ k. by_words (slice_index_or SCRIPT k op.Nop)) ≡ true
 all_pass = refl
 
-either : (b : Bool) (x y : Op) → by_words x ≡ true → by_words y ≡ true → by_words (if b then x else y) ≡ true
-either true x y hx hy = hx
-either false x y hx hy = hy
-
 by_words-at : (k version : ℕ) → k < 151 → by_words (instruction k version) ≡ true
-unfolding instruction
-by_words-at k version h =
-    either (nat_eq k 0x31 && nat_eq version 2) (op.Jump Always 0x460) (slice_index_or SCRIPT k op.Nop) refl (below 151 k test all_pass h)
+by_words-at k version h = both_versions (λ k op. by_words op) 151 all_pass refl k version h
 
 -- ---- what it means
 
