@@ -43,24 +43,7 @@ use Rattle.word_owners.specs.Laws.{FixHolds}
 use Rattle.word_owners.proofs.Frames.{same_or, active-live}
 use Rattle.word_owners.proofs.WriteFrames.{BlockChanges, parts-block, tags-frame, low-same, may-work}
 use Rattle.word_owners.proofs.Patches.{few}
-
-suffix-drop : (k : ℕ) (xs zs : List ℕ) → k ≤ length xs → IsSuffix xs zs → IsSuffix (drop k xs) zs
-suffix-drop k xs zs h s =
-    let e : length (drop k xs) ≡ length xs - k = length-drop k xs in
-    record {
-      from = s.from + k;
-      within = omega (arith, s.within);
-      at = λ i l. let f : s.from + (k + i) ≡ s.from + k + i = omega arith in get_or-drop k xs i 0 ∙ s.at (k + i) (omega arith) ∙ ap (λ (j : ℕ). get_or zs j 0) f;
-    }
-
--- what a pointer denotes begins with its move's range
-unrolled : (w : ℕ → ℕ) (b p : ℕ) (x : DataMove) → move_at p ≡ Some x → remain w b p ≡ range_of w b x.entry ++ behind_entry w b x.entry
-unrolled w b p x e =
-    let m = move_stands p x e in
-    let d = drop-entry w b 0 x.entry m.0 (omega arith) in
-    let a0 : address_of w b x.entry + 0 ≡ address_of w b x.entry = omega arith in
-    let c0 : count_of w b x.entry - 0 ≡ count_of w b x.entry = omega arith in
-    ap (remain_at_move w b) e ∙ d ∙ ap (λ (i : ℕ). range_with_len i (count_of w b x.entry - 0) ++ behind_entry w b x.entry) a0 ∙ ap (λ (i : ℕ). range_with_len (address_of w b x.entry) i ++ behind_entry w b x.entry) c0
+use Rattle.word_owners.proofs.Suffixes.{suffix-drop, unrolled}
 
 module _ (w n : ℕ → ℕ) (b dsp left : ℕ) (z : DataMove) (r : IsRepaired w n b dsp left z) where
   -- a repair writes LASTP and contexts alone

@@ -14,9 +14,13 @@ pub mod Room
 pub mod Sweeps
 pub mod Queues
 pub mod DoneTaken
+pub mod Suffixes
 pub mod Fixes
 pub mod Frees
 pub mod Senses
 pub mod Jumps
 pub mod Loads
 pub mod Returns
+pub mod BlockMoves
+pub mod Beside
+pub mod DataMoves

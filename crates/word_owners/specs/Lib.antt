@@ -5,3 +5,4 @@ pub mod Points
 pub mod Works
 pub mod Holds
 pub mod Laws
+pub mod DataMoves

@@ -1,8 +1,10 @@
 //! Who owns each word of host memory: what holds of a bench at every moment, for any target. Nothing here runs.
 #![tactic(auto)]
 
+mod chip_laws;
 mod laws;
 
+pub use chip_laws::data_moves_hold;
 pub use laws::{
     aborts_hold, device_resets_hold, fixes_hold, frees_hold, jumps_hold, links_hold, loads_hold,
     opening_holds, queues_hold, resets_hold, restarts_hold, returns_hold, senses_hold, sweeps_hold,
