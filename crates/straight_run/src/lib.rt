@@ -15,35 +15,60 @@ mod tests;
 use bench_words::Words;
 use chip_regs::Regs;
 use chip_step::{Bus, StepEnd, step};
+use cmd_block::offsets;
+use host_map::{BLOCKS, MSGIN};
 pub use outcome::Straight;
+use scsi_words::phase_codes::{COMMAND, DATA_IN, MSG_IN, MSG_OUT, STATUS};
 use std::alloc::{AllocError, Global};
 
-/// Where the block lies.
-const BLOCK: u32 = 0x1_0000;
+// The first words of the instructions that name a phase, and of a selection by a table's entry.
+macro_rules! move_bytes {
+    ($count:expr, $phase:expr) => {
+        0x0800_0000 + $phase as u32 * 0x100_0000 + $count
+    };
+}
+
+macro_rules! move_from {
+    ($phase:expr) => {
+        0x1800_0000 + $phase as u32 * 0x100_0000
+    };
+}
+
+macro_rules! jump_when_not {
+    ($phase:expr) => {
+        0x8003_0000 + $phase as u32 * 0x100_0000
+    };
+}
+
+macro_rules! select_from {
+    ($offset:expr) => {
+        0x4300_0000 + $offset as u32
+    };
+}
 
 /// The script and the block without its CDB, as words under their addresses.
 const TABLE: [(u32, u32); 35] = [
-    // SELECT ATN FROM 0x18, 0x48
-    (0x00, 0x4300_0018),
+    // SELECT ATN FROM SEL, 0x48
+    (0x00, select_from!(offsets::SEL)),
     (0x04, 0x48),
-    // MOVE FROM 0x20, WHEN MSG_OUT
-    (0x08, 0x1e00_0000),
-    (0x0c, 0x20),
-    // MOVE FROM 0x28, WHEN COMMAND
-    (0x10, 0x1a00_0000),
-    (0x14, 0x28),
+    // MOVE FROM MSG, WHEN MSG_OUT
+    (0x08, move_from!(MSG_OUT)),
+    (0x0c, offsets::MSG as u32),
+    // MOVE FROM CMD, WHEN COMMAND
+    (0x10, move_from!(COMMAND)),
+    (0x14, offsets::CMD as u32),
     // JUMP 0x28, WHEN NOT DATA_IN
-    (0x18, 0x8103_0000),
+    (0x18, jump_when_not!(DATA_IN)),
     (0x1c, 0x28),
-    // MOVE FROM 0x40, WHEN DATA_IN
-    (0x20, 0x1900_0000),
-    (0x24, 0x40),
-    // MOVE FROM 0x30, WHEN STATUS
-    (0x28, 0x1b00_0000),
-    (0x2c, 0x30),
-    // MOVE 1, 0x1010, WHEN MSG_IN
-    (0x30, 0x0f00_0001),
-    (0x34, 0x1010),
+    // MOVE FROM SEGMENT_0, WHEN DATA_IN
+    (0x20, move_from!(DATA_IN)),
+    (0x24, offsets::SEGMENT_0 as u32),
+    // MOVE FROM STAT, WHEN STATUS
+    (0x28, move_from!(STATUS)),
+    (0x2c, offsets::STAT as u32),
+    // MOVE 1, MSGIN, WHEN MSG_IN
+    (0x30, move_bytes!(1, MSG_IN)),
+    (0x34, MSGIN),
     // CLEAR ACK
     (0x38, 0x6000_0040),
     (0x3c, 0),
@@ -129,7 +154,7 @@ pub fn straight<B: Bus>(alloc: Global, bus: &mut B, lba: u32) -> Result<Straight
     let mut words = Words::new(alloc, 0x10_0000)?;
     lay(&mut words, lba);
     let mut regs = Regs::new();
-    regs.dsa = BLOCK;
+    regs.dsa = BLOCKS;
     run(&mut words, &mut regs, bus);
     Ok(Straight { words, regs })
 }
