@@ -1,8 +1,8 @@
 -- The data moves are those of the script, in both versions: each stands where the script has MOVE FROM its entry, WHEN
 -- its phase, and nowhere else has the script a move of a data phase.
-use Rattle.std.proofs.Common.{◌≡◌, ℕ, zero, suc, pos, ◌*◌, ◌/◌, ◌%◌, ◌<◌, ◌⊎◌, inl, inr, Bool, true, false, ◌&&◌, not, nat_eq, Option, Some, None, refl, arith}
-use Rattle.std.specs.Prelude.{if◌then◌else◌, slice_index_or}
-use Rattle.std.proofs.lemmas.Bool.{and_parts, cases_order, false≢true}
+use Rattle.std.proofs.Common.{◌≡◌, ℕ, pos, ◌*◌, ◌/◌, ◌%◌, ◌<◌, Bool, true, false, ◌&&◌, not, nat_eq, Option, Some, None, refl, arith}
+use Rattle.std.specs.Prelude.{slice_index_or}
+use Rattle.std.proofs.lemmas.Bool.{and_parts, false≢true}
 use Rattle.std.proofs.lemmas.Bool.Decides.{nat_tests}
 use Rattle.scripts_ops.specs.declared.values.Op.{Op}
 use Rattle.scripts_ops.specs.declared.values.Op.TheVariants.{MoveFrom, Jump, Nop}
@@ -10,6 +10,7 @@ use Rattle.scripts_ops.specs.declared.values.Condition.TheVariants.{Always}
 use Rattle.cmd_block.specs.Block.{offset}
 use Rattle.driver_script.specs.declared.script.TheConstants.{SCRIPT}
 use Rattle.driver_script.specs.Script.{instruction}
+use Rattle.driver_script.proofs.ScriptTests.{all_below, both_versions}
 use Rattle.phase_fix.specs.declared.moves.DataPhase.{DataPhase}
 use Rattle.phase_fix.specs.declared.moves.DataPhase.TheVariants.{In, Out}
 use Rattle.phase_fix.specs.declared.moves.Entry.{Entry}
@@ -29,46 +30,20 @@ abbrev agrees : Option DataMove → Op → Bool
 agrees None op = not (is_data op)
 agrees (Some x) op = same op x
 
-abbrev test : ℕ → Bool
-test k = agrees (move_at (8 * k)) (slice_index_or SCRIPT k Nop)
+abbrev agrees_at : ℕ → Op → Bool
+agrees_at k op = agrees (move_at (8 * k)) op
 
-abbrev all_below : ℕ → (ℕ → Bool) → Bool
-all_below zero t = true
-all_below (suc n) t = t n && all_below n t
-
-all_agree : all_below 151 test ≡ true
+all_agree : all_below 151 (λ k. agrees_at k (slice_index_or SCRIPT k Nop)) ≡ true
 unfolding move_at
 all_agree = refl
 
-below_or : (n k : ℕ) (t : ℕ → Bool) → (t n ≡ true) × (all_below n t ≡ true) → (k < n → t k ≡ true) → (k ≡ n) ⊎ ((k < n) ⊎ (n < k)) → k < suc n → t k ≡ true
-below_or n k t h rest (inl e) b = rw e h.0
-below_or n k t h rest (inr (inl l)) b = rest l
-below_or n k t h rest (inr (inr l)) b = absurd (omega arith)
-
-below : (n k : ℕ) (t : ℕ → Bool) → all_below n t ≡ true → k < n → t k ≡ true
-below zero k t h b = absurd (omega arith)
-below (suc n) k t h b =
-    let all = and_parts (t n) (all_below n t) h in
-    below_or n k t all (λ l. below n k t all.1 l) (cases_order k n) b
-
 -- the one instruction in which the versions differ is no data move
-either : (b : Bool) (o : Option DataMove) (x y : Op) → (b ≡ true → agrees o x ≡ true) → agrees o y ≡ true → agrees o (if b then x else y) ≡ true
-either true o x y hx hy = hx refl
-either false o x y hx hy = hy
-
-at_188 : move_at (8 * 0x31) ≡ None
+at_188 : agrees_at 0x31 (Jump Always 0x460) ≡ true
 unfolding move_at
 at_188 = refl
 
-changed : (k version : ℕ) → nat_eq k 0x31 && nat_eq version 2 ≡ true → agrees (move_at (8 * k)) (Jump Always 0x460) ≡ true
-changed k version h =
-    let e : k ≡ 0x31 = grind (arith, nat_tests, and_parts (nat_eq k 0x31) (nat_eq version 2) h) in
-    rw (e, at_188) refl
-
 agree_at : (k version : ℕ) → k < 151 → agrees (move_at (8 * k)) (instruction k version) ≡ true
-unfolding instruction
-agree_at k version h =
-    either (nat_eq k 0x31 && nat_eq version 2) (move_at (8 * k)) (Jump Always 0x460) (slice_index_or SCRIPT k Nop) (changed k version) (below 151 k test all_agree h)
+agree_at k version h = both_versions agrees_at 151 all_agree at_188 k version h
 
 -- ---- what it means
 
