@@ -45,12 +45,12 @@ record SameFrom (from len : ℕ) (m n : List ℕ) : Type 0 where
 from_within : (from len : ℕ) (m n : List ℕ) → SameWithin (range from len) m n → SameFrom from len m n
 from_within from len m n s = record { same = λ x l u. s.bytes x (inl (l, u)) }
 
-in_left : (a b : List Range) (x : ℕ) → IsIn a x → IsIn (a ++ b) x
+pub in_left : (a b : List Range) (x : ℕ) → IsIn a x → IsIn (a ++ b) x
 in_left [] b x h = absurd h
 in_left (r ∷ rs) b x (inl h) = inl h
 in_left (r ∷ rs) b x (inr h) = inr (in_left rs b x h)
 
-in_right : (a b : List Range) (x : ℕ) → IsIn b x → IsIn (a ++ b) x
+pub in_right : (a b : List Range) (x : ℕ) → IsIn b x → IsIn (a ++ b) x
 in_right [] b x h = h
 in_right (r ∷ rs) b x h = inr (in_right rs b x h)
 

@@ -15,6 +15,7 @@ use Rattle.chip_step.specs.Chip.{Chip}
 use Rattle.chip_rows.specs.Touched.{Range, IsIn, Block, block_of, entry_of, came, went, untaken, is_in, range, range_at, of_block, writes, reads, fetches}
 use Rattle.chip_rows.proofs.StepWrites.{writes_within, counts_down}
 use Rattle.chip_rows.proofs.StepReads as reading
+use Rattle.chip_rows.proofs.StepReads.{in_left, in_right}
 use Rattle.driver_script.specs.declared.script.TheConstants.{SCRIPT}
 use Rattle.driver_script.specs.Moves.{data_move}
 use Rattle.driver_script.specs.Script.{instruction}
@@ -70,15 +71,6 @@ controls_at k version h none =
     rw none at t
 
 -- ---- the ranges
-
-in_left : (a b : List Range) (x : ℕ) → IsIn a x → IsIn (a ++ b) x
-in_left [] b x h = absurd h
-in_left (r ∷ rs) b x (inl h) = inl h
-in_left (r ∷ rs) b x (inr h) = inr (in_left rs b x h)
-
-in_right : (a b : List Range) (x : ℕ) → IsIn b x → IsIn (a ++ b) x
-in_right [] b x h = h
-in_right (r ∷ rs) b x h = inr (in_right rs b x h)
 
 in_either : (a b : List Range) (x : ℕ) (C : Type 0) → IsIn (a ++ b) x → (IsIn a x → C) → (IsIn b x → C) → C
 in_either [] b x C h f g = g h
