@@ -21,3 +21,4 @@ pub mod LogTurns
 pub mod Turns
 pub mod Recorded
 pub mod Reached
+pub mod FewEntries

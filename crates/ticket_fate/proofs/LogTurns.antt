@@ -143,11 +143,11 @@ pub record Reset (b : Bool) (before after : Tally) : Type 0 where
   pub clears : before.clears ≤ after.clears
   pub entries : b ≡ false → entries after ≡ entries before
 
-drop-other : (x : ℕ) (b : Bool) (u : LogicalUnit) (k : Task) → (k.ticket ≡ x → ⊥) → tally x (drops_by b u k).log ≡ tally x u.log
+pub drop-other : (x : ℕ) (b : Bool) (u : LogicalUnit) (k : Task) → (k.ticket ≡ x → ⊥) → tally x (drops_by b u k).log ≡ tally x u.log
 drop-other x true u k d = refl
 drop-other x false u k d = tally-other x k.ticket u.log (Drop k.ticket k.high) refl (λ q. d (sym q))
 
-drops-other : (x : ℕ) (ks : List Task) (u : LogicalUnit) → HasNoTaskOf x ks → tally x (fold drops u ks).log ≡ tally x u.log
+pub drops-other : (x : ℕ) (ks : List Task) (u : LogicalUnit) → HasNoTaskOf x ks → tally x (fold drops u ks).log ≡ tally x u.log
 drops-other x [] u d = refl
 drops-other x (k ∷ ks) u d = drops-other x ks (drops u k) d.1 ∙ drop-other x k.senses u k d.0
 

@@ -25,6 +25,7 @@ use Rattle.target_law.specs.Bytes.{Connection, sent_by, heard_by}
 use Rattle.target_law.specs.Target as connection_state
 use Rattle.target_law.specs.Target.{LogicalUnit, ConnectionState, BusFree, TakingCommand, TaskConnected, RogueConnected, Target, unit_at, session, linked, parted, target_reset, goes_on}
 use Rattle.target_law.specs.Calls.{target_acted, acted_by, begun, has_ended, task_reselected}
+use Rattle.target_law.specs.Lawful.{refused_so_far}
 use Rattle.ticket_fate.specs.Tickets.{Plan, unit_of, Life, Unbuilt, Built, Linked, ToRequeue, Waits, Selected, Connected, Away, Lost, Rejected, Finished, Checked, Asks, AskStarts, AskConnected, AskLost, Asked, AtRogue, Ended, Unlinked, Freed, Ticket, setting, course_at, freed_ticket, ticket_asked, view_for}
 use Rattle.ticket_fate.specs.Fates.{ReportFits, FreedReportFits, TicketKept}
 use Rattle.ticket_fate.specs.Senses.{Unasked, SenseOfReportFits, AsksTask}
@@ -378,7 +379,7 @@ keeps g count plan ks ts ns us (points x lastp savep e) h = points-keep g count 
 keeps g count plan ks ts ns us (marks x can) h = ticket-changed g count plan ks ts h x (marked_ticket (ks x))
     (λ u there kept. unit-same-life g ks x (marked_ticket (ks x)) u refl refl (marked-kept g x (ks x) u.log can (kept.each x refl)) kept) (λ e. (e, refl)) (λ e. (e, refl, refl)) (λ e. e)
 keeps g count plan ks ts ns us (relinks i l e f may) h = relinked g count plan ks ts h i l e f may
-keeps g count plan ks ts ns us (acts i c u m limit refused w there e can) h = acts-keep g count plan ks ts h i c u m limit refused w there e can c.task.senses refl
+keeps g count plan ks ts ns us (acts i c u m w there e can) h = acts-keep g count plan ks ts h i c u m u.rig.refusals (refused_so_far u c.task.ticket) w there e can c.task.senses refl
 keeps g count plan ks ts ns us (sends i c at b w free e byte) h =
     calls g count plan ks ts h i c _ _ w (work-of g count plan ks ts h i c w free).target (byte-in g count plan i ks (ts i) (h.each i) c w free at b e byte) (λ z. sent-ticket c.shows c)
 keeps g count plan ks ts ns us (receives i c n at b w free e f byte) h =

@@ -88,7 +88,7 @@ module _ (k j : Ticket) (before after : Tally) (marked bus device : Bool) (h : T
   }
 
 -- the units of a target that is reset, which is this one once its connected task is among the others
-reset-there : (t s : Target) (lun : ℕ) (v : LogicalUnit) → parted t.link t ≡ s → unit_at s.units lun ≡ Some v → unit_at (target_reset t).units lun ≡ Some (unit_reset v)
+pub reset-there : (t s : Target) (lun : ℕ) (v : LogicalUnit) → parted t.link t ≡ s → unit_at s.units lun ≡ Some v → unit_at (target_reset t).units lun ≡ Some (unit_reset v)
 unfolding target_reset
 reset-there t s lun v p there = ap (λ (z : Target). unit_at (map slot_reset z.units) lun) p ∙ slot-there s.units lun v there
 
@@ -180,7 +180,7 @@ module _ (g : Plan) (count : ℕ) (plan : IsPlan g count) (ks : ℕ → Ticket) 
       by u there kept (inr d) = (u, reset-there (ts i) (leaves (ts i) c w) (g.units (unit_of g x)).lun u p (unit-other (ts i).units c.lun (g.units (unit_of g x)).lun (unit_left w c.task) d ∙ there), refl, λ e. not-of g (unit_of g x) ks x u.tasks (not-away e) kept.lists.tasks)
 
 -- what the moves themselves make of tickets
-idle-parted : (l : ConnectionState) → IsIdle l → (t : Target) → parted l t ≡ t
+pub idle-parted : (l : ConnectionState) → IsIdle l → (t : Target) → parted l t ≡ t
 idle-parted BusFree s t = refl
 idle-parted (connection_state.Selected b) s t = refl
 idle-parted (TakingCommand n b) s t = refl
@@ -191,7 +191,7 @@ acted-units : (t : Target) (c : Connection) (u : LogicalUnit) (m : Move) → t.l
 unfolding target_acted
 acted-units t c u m working there = ap (λ z. z.units) (ap (λ l. acted_by l t m) working ∙ at-lun t c.lun _ u there)
 
-begun-units : (t : Target) (n : Nexus) (c : Cdb) (u : LogicalUnit) (x : ℕ) → (begun t n c u x).units ≡ t.units
+pub begun-units : (t : Target) (n : Nexus) (c : Cdb) (u : LogicalUnit) (x : ℕ) → (begun t n c u x).units ≡ t.units
 begun-units t n c u x = by (has_tag u.tasks n.tag || nat_lt 65536 (need_of c).bytes)
     (TaskConnected (record { lun = n.lun; reselected = false; heard = []; task = began n.tag x c u.rig.disconnects (has_ended u.log x); shows = ToChoose }))
   where
@@ -267,7 +267,7 @@ module _ (g : Plan) (count : ℕ) (plan : IsPlan g count) (ks : ℕ → Ticket) 
   turned ns us (points y lastp savep e) = own y _ (stays (ks y) _ was refl refl refl refl refl)
   turned ns us (marks y can) = marked-turned y (same_or_not x y)
   turned ns us (relinks i l e f may) = same
-  turned ns us (acts i c u m limit refused w there e can) = own c.task.ticket _ (stays (ks c.task.ticket) _ was refl refl refl refl refl)
+  turned ns us (acts i c u m w there e can) = own c.task.ticket _ (stays (ks c.task.ticket) _ was refl refl refl refl refl)
   turned ns us (sends i c at b w free e byte) = own c.task.ticket _ (sent-turned c.shows at b (ks c.task.ticket) _ was)
   turned ns us (receives i c n at b w free e f byte) = own c.task.ticket _ (stays (ks c.task.ticket) _ was refl refl refl refl refl)
   turned ns us (hears i c n s w free e d f) = own c.task.ticket _ (stays (ks c.task.ticket) _ was refl refl refl refl refl)
@@ -296,7 +296,7 @@ module _ (g : Plan) (count : ℕ) (plan : IsPlan g count) (ks : ℕ → Ticket) 
   stepped ns us (points y lastp savep e) = calm g count plan ks ts h x ts false (inl refl)
   stepped ns us (marks y can) = calm g count plan ks ts h x ts false (inl refl)
   stepped ns us (relinks i l e f may) = still g count plan ks ts h x i _ false refl
-  stepped ns us (acts i c u m limit refused w there e can) =
+  stepped ns us (acts i c u m w there e can) =
       logs g count plan ks ts h x i _ c.lun u (unit_after u (acted m (session u c))) false there (acted-units (ts i) c u m w there) (acted-turned ks m (session u c) (at-work g count plan ks ts h x i c w))
   stepped ns us (sends i c at b w free e byte) = still g count plan ks ts h x i _ false refl
   stepped ns us (receives i c n at b w free e f byte) = still g count plan ks ts h x i _ false refl

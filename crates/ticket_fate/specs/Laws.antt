@@ -3,9 +3,10 @@ use Rattle.std.specs.Prelude.{◌≡◌, ℕ, ◌<◌, false, List, Some, ◌⊎
 use Rattle.rig_types.specs.declared.report.Outcome.{Outcome}
 use Rattle.rig_types.specs.declared.report.Outcome.TheVariants.{Cut, Reset}
 use Rattle.unit_law.specs.declared.entry.LogEntry.{LogEntry}
-use Rattle.unit_law.specs.Log.{run_log}
+use Rattle.unit_law.specs.Log.{run_log, tally}
 use Rattle.unit_law.specs.Report.{TicketHistory, Fits, SenseFits}
 use Rattle.target_law.specs.Target.{LogicalUnit, BusFree, Target, unit_at, unit_opened}
+use Rattle.logs_have_room.specs.Room.{IsFew}
 use Rattle.ticket_fate.specs.Tickets.{Plan, unit_of, setting, opening, Unbuilt, Freed, Ticket, freed_report, course_at, view_for}
 use Rattle.ticket_fate.specs.Linked.{IsPlan}
 use Rattle.ticket_fate.specs.Moves.{target_of}
@@ -45,6 +46,15 @@ HistoriesEnd = (g : Plan) (count : ℕ) (ns : ℕ → Ticket) (us : ℕ → Targ
 abbrev pub UnitsRunTheirLogs : Type 0
 UnitsRunTheirLogs = (g : Plan) (count : ℕ) (ns : ℕ → Ticket) (us : ℕ → Target) → Reached g count ns us → (n : ℕ) → n < count
     → (u : LogicalUnit) × (unit_at (us (g.units n).target).units (g.units n).lun ≡ Some u) × (u.rig ≡ g.units n) × (u.plain ≡ (run_log g.requests (opening g n) u.log).unit)
+
+-- how often the unit of a ticket may refuse it
+abbrev pub limit_of : Plan → ℕ → ℕ
+limit_of g x = (g.units (unit_of g x)).refusals
+
+-- no ticket has more entries in its unit's log than it may
+abbrev pub EntriesAreFew : Type 0
+EntriesAreFew = (g : Plan) (count : ℕ) (ns : ℕ → Ticket) (us : ℕ → Target) → Reached g count ns us → (x : ℕ)
+    → (u : LogicalUnit) × (unit_at (us (target_of g x)).units (g.units (unit_of g x)).lun ≡ Some u) × IsFew (limit_of g x) (tally x u.log)
 
 -- a ticket of a unit that keeps the rules, whose log has End of it, is neither Cut nor Reset when it is freed
 abbrev pub NoneLostAfterEnd : Type 0

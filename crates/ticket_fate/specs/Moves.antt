@@ -15,7 +15,8 @@ use Rattle.target_law.specs.declared.task_phase.TargetMessage.TheVariants.{Comma
 use Rattle.target_law.specs.declared.task_phase.TaskPhase.TheVariants.{ToChoose, MessageOut, DataOut, MessageIn}
 use Rattle.target_law.specs.declared.task_phase.Completion.{Completion}
 use Rattle.target_law.specs.declared.task_phase.Completion.TheVariants.{Answered as HasAnswered, Refused}
-use Rattle.target_law.specs.Session.{Task, Session, Can, acted, closed, began}
+use Rattle.target_law.specs.Session.{Task, Session, acted, closed, began}
+use Rattle.target_law.specs.Lawful.{CanOf}
 use Rattle.target_law.specs.Bytes.{Connection, byte_by, sent_by, took_by, heard_by, away}
 use Rattle.target_law.specs.Target as connection_state
 use Rattle.target_law.specs.Target.{LogicalUnit, ConnectionState, BusFree, TakingCommand, TaskConnected, RogueConnected, Target, unit_at, with_unit, session, linked, ends, leaves, drops, target_reset}
@@ -111,8 +112,8 @@ pub data Moves (g : Plan) (count : ℕ) : (ℕ → Ticket) → (ℕ → Target) 
   points : {ks : ℕ → Ticket} {ts : ℕ → Target} (x lastp savep : ℕ) → (ks x).life ≡ Connected → Moves g count ks ts (with_at ks x (pointed_ticket (ks x) lastp savep)) ts
   marks : {ks : ℕ → Ticket} {ts : ℕ → Target} (x : ℕ) → CanMark (ks x).life → Moves g count ks ts (with_at ks x (marked_ticket (ks x))) ts
   relinks : {ks : ℕ → Ticket} {ts : ℕ → Target} (i : ℕ) (l : ConnectionState) → IsIdle (ts i).link → IsIdle l → MayLink g i l → Moves g count ks ts ks (with_at ts i (linked (ts i) l))
-  acts : {ks : ℕ → Ticket} {ts : ℕ → Target} (i : ℕ) (c : Connection) (u : LogicalUnit) (m : Move) (limit refused : ℕ) → (ts i).link ≡ TaskConnected c → unit_at (ts i).units c.lun ≡ Some u → c.shows ≡ ToChoose
-      → Can m (session u c) limit refused → Moves g count ks ts (with_at ks c.task.ticket (record (ks c.task.ticket) { task = (acted m (session u c)).task })) (with_at ts i (target_acted (ts i) m))
+  acts : {ks : ℕ → Ticket} {ts : ℕ → Target} (i : ℕ) (c : Connection) (u : LogicalUnit) (m : Move) → (ts i).link ≡ TaskConnected c → unit_at (ts i).units c.lun ≡ Some u → c.shows ≡ ToChoose
+      → CanOf u c m → Moves g count ks ts (with_at ks c.task.ticket (record (ks c.task.ticket) { task = (acted m (session u c)).task })) (with_at ts i (target_acted (ts i) m))
   sends : {ks : ℕ → Ticket} {ts : ℕ → Target} (i : ℕ) (c : Connection) (at b : ℕ) → (ts i).link ≡ TaskConnected c → c.task.senses ≡ false → at ≡ c.task.position → byte_by c.shows c.task c.lun ≡ Some b
       → Moves g count ks ts (with_at ks c.task.ticket (ticket_sent c.shows at b (ks c.task.ticket) (sent_by c.shows c).task)) (with_at ts i (linked (ts i) (TaskConnected (sent_by c.shows c))))
   receives : {ks : ℕ → Ticket} {ts : ℕ → Target} (i : ℕ) (c : Connection) (n at b : ℕ) → (ts i).link ≡ TaskConnected c → c.task.senses ≡ false → c.shows ≡ DataOut n → at ≡ c.task.position → slice_get (ks c.task.ticket).buffer at ≡ Some b

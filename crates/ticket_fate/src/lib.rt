@@ -4,4 +4,6 @@
 
 mod laws;
 
-pub use laws::{histories_end, none_lost_after_end, reports_fit, units_run_their_logs};
+pub use laws::{
+    entries_are_few, histories_end, none_lost_after_end, reports_fit, units_run_their_logs,
+};

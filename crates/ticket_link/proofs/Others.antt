@@ -39,7 +39,7 @@ module _ (g : Plan) (count : ℕ) (ks : ℕ → Ticket) (ts : ℕ → Target) (h
   moves-one ns us (points y lastp savep e) = (target_of g y, changes-ticket y _)
   moves-one ns us (marks y can) = (target_of g y, changes-ticket y _)
   moves-one ns us (relinks i l e f may) = (i, record { targets = λ j d. with_at-other ts i _ j d; tickets = λ x d. refl })
-  moves-one ns us (acts i c u m limit refused w there e can) = calls i c _ _ w
+  moves-one ns us (acts i c u m w there e can) = calls i c _ _ w
   moves-one ns us (sends i c at b w plain e byte) = calls i c _ _ w
   moves-one ns us (receives i c n at b w plain e f byte) = calls i c _ _ w
   moves-one ns us (hears i c n s w plain e d f) = calls i c _ _ w

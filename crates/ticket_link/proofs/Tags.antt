@@ -122,7 +122,7 @@ module _ (g : Plan) (count : ℕ) (plan : IsPlan g count) (ks : ℕ → Ticket) 
   apart-kept ns us (points y lastp savep e) free a = all-kept g ks ns (one g ks y _ (refl, λ l. l)) a
   apart-kept ns us (marks y can) free a = all-kept g ks ns (one g ks y _ (refl, λ l. l)) a
   apart-kept ns us (relinks i l e f may) free a = a
-  apart-kept ns us (acts i c u m limit refused w there e can) free a = all-kept g ks ns (called i c _ w refl) a
+  apart-kept ns us (acts i c u m w there e can) free a = all-kept g ks ns (called i c _ w refl) a
   apart-kept ns us (sends i c at b w plain e byte) free a = all-kept g ks ns (called i c _ w (sent-tag c.shows at b (ks c.task.ticket) _)) a
   apart-kept ns us (receives i c n at b w plain e f byte) free a = all-kept g ks ns (called i c _ w refl) a
   apart-kept ns us (hears i c n s w plain e d f) free a = all-kept g ks ns (called i c _ w refl) a
