@@ -1,3 +1,4 @@
 pub mod Tags
 pub mod Tasks
 pub mod Others
+pub mod IdleCalls

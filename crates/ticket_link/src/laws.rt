@@ -1,6 +1,6 @@
 //! Laws of tags and tasks. Each function does nothing; its contract is the law.
 
-ghost use Rattle.ticket_link.specs.Laws.{TagsNameOne, ConnectedIsItsTicket, WaitingAreTheirTickets, OneTargetMoves};
+ghost use Rattle.ticket_link.specs.Laws.{TagsNameOne, ConnectedIsItsTicket, WaitingAreTheirTickets, OneTargetMoves, IdleCallsRelink};
 
 /// Where each Build takes a tag that no live ticket of the unit has, a tag of a unit names at most one live ticket,
 /// after every list of moves.
@@ -18,4 +18,10 @@ pub fn tasks_are_their_tickets()
 /// A move leaves every target but one, and the tickets of every target but that one.
 pub fn one_target_moves()
     ensures { OneTargetMoves }
+{}
+
+/// Where no task is connected to a target, a selection, a choice, a byte before a task begins, a message and an
+/// acknowledgement change its link alone, and are moves of the machine; BUS DEVICE RESET is a reset of the target.
+pub fn idle_calls_relink()
+    ensures { IdleCallsRelink }
 {}
