@@ -1,5 +1,5 @@
 -- What holds goes on where nothing but bytes of the buffers and of one sense area changes.
-use Rattle.std.proofs.Common.{◌≡◌, ℕ, ◌+◌, ◌<◌, ◌≤◌, List, length, sym, subst, ◌∙◌, arith, Option, None}
+use Rattle.std.proofs.Common.{◌≡◌, ℕ, ◌+◌, ◌≤◌, List, length, sym, subst, ◌∙◌, arith, Option}
 use Rattle.bench_words.specs.Memory.{word_at}
 use Rattle.bench_words.specs.Bytes.{IsBytes}
 use Rattle.bench_words.specs.Views.{Outside}
@@ -13,7 +13,7 @@ use Rattle.word_owners.specs.Points.{Point, about}
 use Rattle.word_owners.specs.Parts.{Counts, Parts}
 use Rattle.word_owners.specs.Works.{Works}
 use Rattle.word_owners.specs.Holds.{Spot, Holds, Running, Stays, Linked, work_at, link_at, ahead_at, closing_at}
-use Rattle.word_owners.proofs.Frames.{Same, SameState, fixed-frame}
+use Rattle.word_owners.proofs.Frames.{Same, fixed-frame}
 use Rattle.word_owners.proofs.WriteFrames.{Spares, parts-spared, tags-frame}
 
 -- every word reads as before but those of the buffer region and of the sense area of one ticket

@@ -1,5 +1,5 @@
 -- What a block move comes to, for every answer of the bus: refused, broken off or whole; which bytes it changed, and who is connected then.
-use Rattle.std.proofs.Common.{◌≡◌, ◌≢◌, ◌⊎◌, inl, inr, ℕ, pos, zero, suc, ◌+◌, ◌-◌, ◌*◌, ◌/◌, ◌%◌, ◌<◌, ◌≤◌, List, length, Bool, true, false, ◌&&◌, nat_eq, nat_le, MatchBool, refl, sym, ap, subst, ◌∙◌, arith, Option, Some, None, get_or, set, length-set, get_or-set_other}
+use Rattle.std.proofs.Common.{◌≡◌, ◌≢◌, ◌⊎◌, inl, inr, ℕ, pos, zero, suc, ◌+◌, ◌-◌, ◌%◌, ◌<◌, ◌≤◌, List, length, Bool, true, false, ◌&&◌, nat_eq, nat_le, MatchBool, refl, sym, ap, subst, ◌∙◌, arith, Option, Some, None, get_or, set, length-set, get_or-set_other}
 use Rattle.std.specs.Prelude.{if◌then◌else◌, is_none}
 use Rattle.std.proofs.lemmas.Bool.Decides.{nat_tests}
 use Rattle.bench_words.specs.Memory.{word_at}

@@ -1,5 +1,5 @@
 -- The 36 data moves keep the invariant, for every answer of the bus.
-use Rattle.std.proofs.Common.{◌≡◌, ◌≢◌, ◌⊎◌, inl, inr, ℕ, pos, suc, ◌+◌, ◌-◌, ◌*◌, ◌/◌, ◌%◌, ◌<◌, ◌≤◌, List, length, Bool, true, false, refl, sym, ap, subst, ◌∙◌, arith, Option, Some, None}
+use Rattle.std.proofs.Common.{◌≡◌, ◌≢◌, ◌⊎◌, inl, inr, ℕ, suc, ◌+◌, ◌-◌, ◌*◌, ◌/◌, ◌%◌, ◌<◌, ◌≤◌, List, length, Bool, true, false, refl, sym, ap, subst, ◌∙◌, arith, Option, Some, None}
 use Rattle.std.specs.Prelude.{if◌then◌else◌, ◌==◌}
 use Rattle.std.proofs.lemmas.Bool.Decides.{nat_tests}
 use Rattle.bench_words.specs.Memory.{word_at}
@@ -7,26 +7,20 @@ use Rattle.bench_words.specs.Views.{Outside}
 use Rattle.rig_types.specs.declared.rig.Unit.{Unit as RigUnit}
 use Rattle.scsi_words.specs.declared.phases.kinds.Direction.{Direction}
 use Rattle.scripts_ops.specs.declared.values.Op.{Op}
-use Rattle.scripts_ops.specs.declared.values.Op.TheVariants.{MoveFrom}
 use Rattle.cmd_block.specs.Block.{offset}
-use Rattle.cmd_block.specs.declared.Field.TheVariants.{State}
-use Rattle.driver_script.specs.Script.{instruction}
 use Rattle.phase_fix.specs.declared.moves.DataMove.{DataMove}
 use Rattle.phase_fix.specs.declared.moves.DataPhase.{DataPhase}
 use Rattle.phase_fix.specs.declared.moves.DataPhase.TheVariants.{In, Out}
 use Rattle.phase_fix.specs.declared.moves.Entry.{Entry}
 use Rattle.phase_fix.specs.declared.moves.Entry.TheVariants.{Segment, Context}
-use Rattle.phase_fix.specs.InScript as in_script
 use Rattle.phase_fix.specs.InScript.{instruction_of, phase_code}
-use Rattle.phase_fix.specs.Moves.{IsEntry, count_field, address_field, first_segment, move_at}
+use Rattle.phase_fix.specs.Moves.{IsEntry, count_field, address_field, first_segment}
 use Rattle.phase_fix.specs.Remain.{count_of, address_of, segments_from, remain_at_move}
 use Rattle.phase_fix.proofs.MoveLaws.{move_stands, move-place}
-use Rattle.phase_fix.proofs.RemainLaws.{behind_entry}
 use Rattle.phase_fix.proofs.ScriptMoves.{finds_moves}
 use Rattle.chip_regs.specs.Registers.{is_stopped, cause_of}
 use Rattle.chip_regs.specs.declared.registers.Cause.{Cause}
 use Rattle.chip_regs.specs.declared.registers.Cause.TheVariants.{Ma}
-use Rattle.chip_step.specs.Chip.{Chip}
 use Rattle.chip_step.specs.Step.{ChipStep, after_fetch}
 use Rattle.chip_step.specs.Instructions.{Does}
 use Rattle.chip_step.specs.declared.outcome.StepEnd.{StepEnd}
@@ -42,14 +36,14 @@ use Rattle.world_law.specs.declared.reply.Stop.{Stop}
 use Rattle.world_law.specs.declared.reply.Stop.TheVariants as stop
 use Rattle.world_law.specs.World.{World, live}
 use Rattle.world_law.specs.ChipSteps.{chip_of, after_chip, stop_for, RunsChip}
-use Rattle.word_owners.specs.Tickets.{Tickets, tickets_of, block_of, target_of, goal, way, IsLive, AreTickets}
+use Rattle.word_owners.specs.Tickets.{Tickets, tickets_of, block_of, goal, way, IsLive}
 use Rattle.word_owners.specs.Pointers.{IsSuffix, Names, Follows, move_place}
 use Rattle.word_owners.specs.Points.{Moves, At340, At3C8, BehindContext, Point, about, Link, OfTicket, Moving}
 use Rattle.word_owners.specs.Parts.{Counts, MayWork}
 use Rattle.word_owners.specs.Works.{Works}
 use Rattle.word_owners.specs.Holds.{Holds, Running, Mismatched, Broken, BrokenOff, Linked, AtPoint}
 use Rattle.word_owners.specs.DataMoves.{DataMovesHold, AfterMove, behind_move, behind_last}
-use Rattle.word_owners.proofs.Frames.{Same, active-live, names-frame, segments-frame, contexts-frame}
+use Rattle.word_owners.proofs.Frames.{Same, active-live, names-frame}
 use Rattle.word_owners.proofs.WriteFrames.{may-work}
 use Rattle.word_owners.proofs.Suffixes.{names-behind, InGoal, in-goal, goal-place, InBuffer, InArea}
 use Rattle.word_owners.proofs.BlockMoves.{Filled, filled-word, Still, MovedSo, refused, broke, whole, moves_from}
@@ -124,7 +118,7 @@ module _ (version : ℕ) (units : List RigUnit) (t : ℕ) (phase : DataPhase) (e
   abbrev n : ℕ → ℕ
   n = word_at s.chip.memory
 
-  alive : IsLive (ts.stage t)
+  pub alive : IsLive (ts.stage t)
   alive = active-live (ts.stage t) h.works.plays.begun.stage
 
   entry : IsEntry e
@@ -133,7 +127,7 @@ module _ (version : ℕ) (units : List RigUnit) (t : ℕ) (phase : DataPhase) (e
   some : 0 < count_of v b e
   some = some-left (count_of v b e) (follows-some v b phase e entry h.works.extra.follows)
 
-  goes : InGoal (goal (ts.fixed t)) (address_of v b e) (count_of v b e)
+  pub goes : InGoal (goal (ts.fixed t)) (address_of v b e) (count_of v b e)
   goes = in-goal v b (way (ts.fixed t)) (goal (ts.fixed t)) (move_place phase e) x h.works.extra
 
   stands : StandsAt version (move_place phase e / 8) (chip_of w)

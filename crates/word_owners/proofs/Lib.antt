@@ -24,3 +24,4 @@ pub mod Returns
 pub mod BlockMoves
 pub mod Beside
 pub mod DataMoves
+pub mod Buffers

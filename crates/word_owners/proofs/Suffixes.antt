@@ -12,7 +12,7 @@ use Rattle.phase_fix.specs.Moves.{move_at}
 use Rattle.phase_fix.specs.Remain.{count_of, address_of, range_of, remain, remain_at_move}
 use Rattle.phase_fix.proofs.MoveLaws.{move_stands}
 use Rattle.phase_fix.proofs.RemainLaws.{drop-entry, behind_entry}
-use Rattle.word_owners.specs.Tickets.{Fixed, Tickets, block_of, goal, IsLive, AreTickets}
+use Rattle.word_owners.specs.Tickets.{Tickets, block_of, goal, IsLive, AreTickets}
 use Rattle.word_owners.specs.Pointers.{IsSuffix, Names}
 
 pub suffix-drop : (k : ℕ) (xs zs : List ℕ) → k ≤ length xs → IsSuffix xs zs → IsSuffix (drop k xs) zs

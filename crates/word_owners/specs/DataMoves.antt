@@ -1,5 +1,5 @@
 -- Laws of the data moves: what a step at one of them leaves.
-use Rattle.std.specs.Prelude.{◌≡◌, ◌⊎◌, ℕ, ◌+◌, ◌==◌, List, if◌then◌else◌}
+use Rattle.std.specs.Prelude.{◌⊎◌, ℕ, ◌+◌, ◌==◌, List, if◌then◌else◌}
 use Rattle.rig_types.specs.declared.rig.Unit.{Unit as RigUnit}
 use Rattle.phase_fix.specs.declared.moves.DataMove.{DataMove}
 use Rattle.phase_fix.specs.declared.moves.DataPhase.{DataPhase}

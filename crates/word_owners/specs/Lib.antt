@@ -6,3 +6,4 @@ pub mod Works
 pub mod Holds
 pub mod Laws
 pub mod DataMoves
+pub mod Buffers

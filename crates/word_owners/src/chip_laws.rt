@@ -1,5 +1,6 @@
 //! Laws of the chip's steps that ask the bus. Each function does nothing; its contract is the law.
 
+ghost use Rattle.word_owners.specs.Buffers.{BuffersApart, DataStayInBuffers, PointersStayInBuffers};
 ghost use Rattle.word_owners.specs.DataMoves.{DataMovesHold};
 
 /// At each of the 36 data moves a step of the chip keeps the invariant, whatever the bus answers: the chip goes on behind
@@ -7,4 +8,18 @@ ghost use Rattle.word_owners.specs.DataMoves.{DataMovesHold};
 /// still denote suffixes of what its ticket moves.
 pub fn data_moves_hold()
     ensures { DataMovesHold }
+{}
+
+/// Wherever the invariant holds, LASTP and SAVEP of each live ticket denote a suffix of its buffer, and of the sense area
+/// of its block from its Sense step on, in its direction and through entries none of which is empty.
+pub fn pointers_stay_in_buffers()
+    ensures { PointersStayInBuffers }
+{}
+
+/// A step at a data move changes a byte only where its ticket has it in its buffer, or in the sense area of its block
+/// from its Sense step on, and only while the target of the ticket's unit is connected; DSA is the block of that live
+/// ticket, and all that the move's entry names is the ticket's. Two live tickets share no byte.
+pub fn data_stay_in_buffers()
+    ensures moves { DataStayInBuffers }
+    ensures apart { BuffersApart }
 {}

@@ -4,7 +4,7 @@
 mod chip_laws;
 mod laws;
 
-pub use chip_laws::data_moves_hold;
+pub use chip_laws::{data_moves_hold, data_stay_in_buffers, pointers_stay_in_buffers};
 pub use laws::{
     aborts_hold, device_resets_hold, fixes_hold, frees_hold, jumps_hold, links_hold, loads_hold,
     opening_holds, queues_hold, resets_hold, restarts_hold, returns_hold, senses_hold, sweeps_hold,
