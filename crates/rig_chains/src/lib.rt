@@ -16,11 +16,13 @@ ghost use Rattle.rig_chains.specs.Chains.{has_target, is_at, jump_if, target_ops
 mod laws;
 
 use bench_words::Words;
+use chip_regs::places::{DSA, SFBR};
 use driver_script::{Name, label};
 use host_map::{CHAINS, MSGIN, tag_entry};
 pub use laws::{chains_stay, units_are_found};
 use rig_types::Unit;
 use scripts_ops::{Address, Change, Condition, Op, encode};
+use scsi_words::phase_codes::MSG_IN;
 
 /// A bus has eight SCSI IDs, from 0 on; a target that no unit of the rig has gets no jump.
 const TARGETS: u8 = 8;
@@ -32,13 +34,6 @@ const UNKNOWN_TARGET: u32 = 0x0a;
 const NO_IDENTIFY: u32 = 0x08;
 /// The vector of a LUN that the target doesn't have.
 const UNKNOWN_LUN: u32 = 0x09;
-
-// Registers by their places, and a bus phase by its code.
-const SFBR: u8 = 0x08;
-
-const DSA: u8 = 0x10;
-
-const MSG_IN: u8 = 7;
 
 /// Whether a unit of the rig has this target.
 fn has_target(units: &[Unit], target: u8) -> bool
