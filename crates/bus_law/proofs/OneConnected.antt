@@ -1,7 +1,8 @@
 -- The connected device isn't free, and every other one is.
-use Rattle.std.proofs.Common.{arith, ◌≡◌, ◌≢◌, ◌<◌, ◌≤◌, ◌+◌, ◌%◌, ℕ, zero, suc, Bool, true, false, ◌&&◌, nat_lt, is_none, length, slice_get, slice_set, slice_index_or, List, [], ◌∷◌, ◌++◌, map, Option, Some, None, refl, sym, ap, subst, ◌∙◌, ◌⊎◌, inl, inr}
+use Rattle.std.proofs.Common.{arith, ◌≡◌, ◌≢◌, ◌<◌, ◌≤◌, ◌+◌, ◌%◌, ℕ, zero, suc, Bool, true, false, nat_lt, is_none, length, slice_get, slice_set, slice_index_or, List, [], ◌∷◌, ◌++◌, map, Option, Some, None, refl, sym, ap, subst, ◌∙◌, ◌⊎◌, inl, inr}
 use Rattle.std.specs.List.{range_with_len}
 use Rattle.std.proofs.lemmas.List.{get_or-set_same, get_or-set_other}
+use Rattle.std.proofs.lemmas.Bool.{and_parts}
 use Rattle.rig_types.specs.declared.rig.Unit.{Unit as RigUnit}
 use Rattle.chip_step.specs.Event.{Event, Phase, Shown, ByteIn, ByteOut, Select, Reselect, SetAtn, ClearAck, Leave}
 use Rattle.target_law.specs.declared.nexus.Nexus.{Nexus}
@@ -73,7 +74,7 @@ free-now : (b : BusState) (id : ℕ) (d : DeviceState) → id < length b.devices
 free-now b id d l f o k (inl e) = ap (λ (x : DeviceState). is_free x.target.link) (set-here b.devices id k d l e) ∙ f
 free-now b id d l f o k (inr n) = ap (λ (x : DeviceState). is_free x.target.link) (get_or-set_other b.devices id k d no_device n) ∙ o k n
 
-same-or-not : (a b : ℕ) → (a ≡ b) ⊎ (a ≢ b)
+pub same-or-not : (a b : ℕ) → (a ≡ b) ⊎ (a ≢ b)
 same-or-not zero zero = inl refl
 same-or-not zero (suc b) = inr (λ e. absurd (omega (arith, e)))
 same-or-not (suc a) zero = inr (λ e. absurd (omega (arith, e)))
@@ -228,10 +229,6 @@ answers-stands b id h = stands b.devices id (λ e. nobody-answers (subst (λ (d 
 
 -- ---- selection and reselection
 
-first : (a b : Bool) → a && b ≡ true → (a ≡ true) × (b ≡ true)
-first true b h = (refl, h)
-first false b h = absurd cc
-
 none-is : (o : Option ℕ) → is_none o ≡ true → o ≡ None
 none-is None h = refl
 none-is (Some x) h = absurd cc
@@ -248,7 +245,7 @@ was-called false cs word c e = absurd cc
 named-connects : (units : List RigUnit) (b : BusState) (word : ℕ) (c : Candidate) → candidate_named units b word ≡ Some c → OneConnected b → OneConnected (reselected b word c)
 named-connects units b word c e o =
     let called : calls b word ≡ true = was-called (calls b word) (all_candidates units b) word c e in
-    connects-candidate b word c (none-is b.connected (first (is_none b.connected) _ called).0)
+    connects-candidate b word c (none-is b.connected (and_parts (is_none b.connected) _ called).0)
     (is-candidate b (calls b word) (all_candidates units b) word c (of-rig b units) e) o
 
 reselects : (units : List RigUnit) (o : Option Candidate) (word : ℕ) (b : BusState) → candidate_named units b word ≡ o → OneConnected b → OneConnected (after_reselection o word b)
@@ -259,7 +256,7 @@ selects : (units : List RigUnit) (o : Option Candidate) (there : Bool) (id word 
     → OneConnected (after_selection o there id word b)
 selects units (Some x) there id word b e t c = named-connects units b word x e c
 selects units None true id word b e t c =
-    let h : (is_none b.connected ≡ true) × (answers (device_at b id).target ≡ true) = first (is_none b.connected) (answers (device_at b id).target) t in
+    let h : (is_none b.connected ≡ true) × (answers (device_at b id).target ≡ true) = and_parts (is_none b.connected) (answers (device_at b id).target) t in
     held-here b id (device_selected (device_at b id)) (answers-stands b id h.1) (selected-holds (is_rogue (device_at b id).target))
     (λ k n. all-free b (none-is b.connected h.0) c k)
 selects units None false id word b e t c = c

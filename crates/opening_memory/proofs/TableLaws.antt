@@ -2,7 +2,7 @@
 use Rattle.std.proofs.Common.{◌≡◌, ◌≢◌, ◌++◌, ℕ, zero, suc, ◌+◌, ◌*◌, ◌%◌, ◌^◌, ◌<◌, ◌≤◌, ◌⊎◌, inl, inr, Bool, true, false, nat_eq, nat_lt, nat_le, ◌&&◌, List, [], ◌∷◌, length, flat_map, fold, map, refl, sym, ap, ◌∙◌, arith}
 use Rattle.std.specs.Prelude.{if◌then◌else◌}
 use Rattle.std.specs.List.{All, range_with_len}
-use Rattle.std.proofs.lemmas.Bool.{cases_order, false≢true}
+use Rattle.std.proofs.lemmas.Bool.{and_parts, cases_order}
 use Rattle.std.proofs.lemmas.Bool.Decides.{nat_tests}
 use Rattle.std.proofs.lemmas.List.Elements.{All-head, All-tail}
 use Rattle.std.proofs.lemmas.List.FromFn.{map-range_with_len_more}
@@ -34,11 +34,6 @@ lies low high [] = true
 lies low high (p ∷ ps) =
     (nat_le low p.0 && nat_le (p.0 + 4) high) && ((nat_eq (p.0 % 4) 0 && nat_lt p.1 4294967296) && lies low high ps)
 
-both : (a b : Bool) → a && b ≡ true → (a ≡ true) × (b ≡ true)
-both true true h = (refl, refl)
-both true false h = absurd (false≢true h)
-both false b h = absurd (false≢true h)
-
 most : (a b : ℕ) → nat_le a b ≡ true → a ≤ b
 most a b h = grind (arith, nat_tests)
 
@@ -57,10 +52,10 @@ equal a b h = grind (arith, nat_tests)
 pub lies_so : (low high : ℕ) (ps : List (ℕ × ℕ)) → lies low high ps ≡ true → Lie low high ps
 lies_so low high [] h = tt
 lies_so low high (p ∷ ps) h =
-    let parts = both (nat_le low p.0 && nat_le (p.0 + 4) high) ((nat_eq (p.0 % 4) 0 && nat_lt p.1 4294967296) && lies low high ps) h in
-    let range = both (nat_le low p.0) (nat_le (p.0 + 4) high) parts.0 in
-    let rest = both (nat_eq (p.0 % 4) 0 && nat_lt p.1 4294967296) (lies low high ps) parts.1 in
-    let word = both (nat_eq (p.0 % 4) 0) (nat_lt p.1 4294967296) rest.0 in (
+    let parts = and_parts (nat_le low p.0 && nat_le (p.0 + 4) high) ((nat_eq (p.0 % 4) 0 && nat_lt p.1 4294967296) && lies low high ps) h in
+    let range = and_parts (nat_le low p.0) (nat_le (p.0 + 4) high) parts.0 in
+    let rest = and_parts (nat_eq (p.0 % 4) 0 && nat_lt p.1 4294967296) (lies low high ps) parts.1 in
+    let word = and_parts (nat_eq (p.0 % 4) 0) (nat_lt p.1 4294967296) rest.0 in (
       most low p.0 range.0,
       most (p.0 + 4) high range.1,
       same (p.0 % 4) 0 word.0,

@@ -2,13 +2,9 @@
 use Rattle.std.proofs.lemmas.List.{get_or-set_same, get_or-set_other}
 use Rattle.std.proofs.Common.{◌≡◌, ◌≢◌, ℕ, zero, suc, ◌+◌, max, ◌≤◌, ◌<◌, Bool, true, false, List, [], ◌∷◌, refl, ap, sym, ◌∙◌, arith, Option, Some, None, length, nat_le, ◌&&◌, slice_set, slice_index_or, if◌then◌else◌}
 use Rattle.std.proofs.lemmas.Bool.Decides.{nat_tests}
+use Rattle.std.proofs.lemmas.Bool.{and_parts}
 use Rattle.target_law.specs.Target.{LogicalUnit, Target, unit_at}
 use Rattle.target_law.specs.Devices.{DeviceState, room_at, lies_within, lie_within, where_room, reserved_for, device_reserved}
-
-both : (a b : Bool) → (a && b) ≡ true → (a ≡ true) × (b ≡ true)
-both true true e = (refl, refl)
-both true false e = cc
-both false b e = cc
 
 and-true : (a b : Bool) → b ≡ true → (a && b) ≡ a
 and-true true true e = refl
@@ -35,10 +31,10 @@ lies-of None room f = refl
 pub lie_within-each : (us : List (Option LogicalUnit)) (rooms : List ℕ) → lie_within us rooms ≡ true → (lun : ℕ) (u : LogicalUnit) → unit_at us lun ≡ Some u → length u.log ≤ slice_index_or rooms lun 0
 unfolding lie_within unit_at
 lie_within-each [] rooms e lun u h = cc
-lie_within-each (x ∷ us) [] e zero u h = lies-least x 0 u ((both (lies_within x 0) (lie_within us []) e).0) h
-lie_within-each (x ∷ us) [] e (suc lun) u h = lie_within-each us [] ((both (lies_within x 0) (lie_within us []) e).1) lun u h
-lie_within-each (x ∷ us) (r ∷ rooms) e zero u h = lies-least x r u ((both (lies_within x r) (lie_within us rooms) e).0) h
-lie_within-each (x ∷ us) (r ∷ rooms) e (suc lun) u h = lie_within-each us rooms ((both (lies_within x r) (lie_within us rooms) e).1) lun u h
+lie_within-each (x ∷ us) [] e zero u h = lies-least x 0 u ((and_parts (lies_within x 0) (lie_within us []) e).0) h
+lie_within-each (x ∷ us) [] e (suc lun) u h = lie_within-each us [] ((and_parts (lies_within x 0) (lie_within us []) e).1) lun u h
+lie_within-each (x ∷ us) (r ∷ rooms) e zero u h = lies-least x r u ((and_parts (lies_within x r) (lie_within us rooms) e).0) h
+lie_within-each (x ∷ us) (r ∷ rooms) e (suc lun) u h = lie_within-each us rooms ((and_parts (lies_within x r) (lie_within us rooms) e).1) lun u h
 
 pub lie_within-all : (us : List (Option LogicalUnit)) (rooms : List ℕ) → ((lun : ℕ) (u : LogicalUnit) → unit_at us lun ≡ Some u → length u.log ≤ slice_index_or rooms lun 0) → lie_within us rooms ≡ true
 unfolding lie_within unit_at
@@ -52,9 +48,9 @@ pub lie_within-set : (us : List (Option LogicalUnit)) (rooms : List ℕ) (i : �
 unfolding lie_within
 lie_within-set [] rooms i u e l m = let f : ⊥ = omega arith in absurd f
 lie_within-set (x ∷ us) [] i u e l m = let f : ⊥ = omega arith in absurd f
-lie_within-set (x ∷ us) (r ∷ rooms) zero u e l m = and-true (lies_within u r) (lie_within us rooms) ((both (lies_within x r) (lie_within us rooms) e).1)
+lie_within-set (x ∷ us) (r ∷ rooms) zero u e l m = and-true (lies_within u r) (lie_within us rooms) ((and_parts (lies_within x r) (lie_within us rooms) e).1)
 lie_within-set (x ∷ us) (r ∷ rooms) (suc i) u e l m =
-    let parts = both (lies_within x r) (lie_within us rooms) e in
+    let parts = and_parts (lies_within x r) (lie_within us rooms) e in
     and-of (lies_within x r) _ _ parts.0 (lie_within-set us rooms i u parts.1 (omega arith) (omega arith))
 
 -- the logs have room, or not

@@ -2,6 +2,7 @@
 use Rattle.std.proofs.Common.{arith, ◌≡◌, ◌≤◌, ℕ, zero, suc, ◌==◌, Bool, true, false, ◌&&◌, ◌||◌, not, List, [], ◌∷◌, length, slice_get, slice_index_or, Option, Some, None, refl, sym, ap, ◌∙◌}
 use Rattle.std.proofs.lemmas.Bool.Decides.{nat_tests}
 use Rattle.std.specs.List.{list_any, list_all}
+use Rattle.std.proofs.lemmas.Bool.{and_parts}
 use Rattle.rig_types.specs.declared.commands.Command.{Command}
 use Rattle.rig_types.specs.declared.step.Step.{Step}
 use Rattle.rig_types.specs.declared.step.Step.TheVariants as step
@@ -18,10 +19,6 @@ use Rattle.world_law.specs.World.{BenchSetting, World, front}
 use Rattle.world_law.specs.Lines.{is_run, all_decided, drained}
 use Rattle.world_law.specs.Stops.{is_clear, is_done_by}
 use Rattle.world_law.specs.Enabling.{Enabled, MayQueue, IsEnded}
-
-both : (a b : Bool) → a && b ≡ true → (a ≡ true) × (b ≡ true)
-both true b h = (refl, h)
-both false b h = absurd cc
 
 neither : (a b : Bool) → a || b ≡ false → (a ≡ false) × (b ≡ false)
 neither true b h = absurd cc
@@ -47,18 +44,18 @@ is-zero n h = grind (arith, nat_tests, h)
 
 none-due : (ns : List ℕ) (c : ℕ) → list_all (λ (n : ℕ). n == 0) ns ≡ true → slice_index_or ns c 0 ≡ 0
 none-due [] c h = refl
-none-due (n ∷ ns) zero h = is-zero n (both (n == 0) (list_all (λ (n : ℕ). n == 0) ns) h).0
-none-due (n ∷ ns) (suc c) h = none-due ns c (both (n == 0) (list_all (λ (n : ℕ). n == 0) ns) h).1
+none-due (n ∷ ns) zero h = is-zero n (and_parts (n == 0) (list_all (λ (n : ℕ). n == 0) ns) h).0
+none-due (n ∷ ns) (suc c) h = none-due ns c (and_parts (n == 0) (list_all (λ (n : ℕ). n == 0) ns) h).1
 
 same-length : (a b : ℕ) → a == b ≡ true → a ≡ b
 same-length a b h = grind (arith, nat_tests, h)
 
 pub no-line-left : (css : List (List Command)) (lss : List (List Decided)) (s : ℕ) → all_decided css lss ≡ true → length (slice_index_or css s []) ≤ length (slice_index_or lss s [])
 no-line-left [] lss s h = omega arith
-no-line-left (cs ∷ css) [] zero h = omega (arith, is-zero (length cs) (both (length cs == 0) (all_decided css []) h).0)
-no-line-left (cs ∷ css) [] (suc s) h = no-line-left css [] s (both (length cs == 0) (all_decided css []) h).1
-no-line-left (cs ∷ css) (ls ∷ lss) zero h = omega (arith, same-length (length cs) (length ls) (both (length cs == length ls) (all_decided css lss) h).0)
-no-line-left (cs ∷ css) (ls ∷ lss) (suc s) h = no-line-left css lss s (both (length cs == length ls) (all_decided css lss) h).1
+no-line-left (cs ∷ css) [] zero h = omega (arith, is-zero (length cs) (and_parts (length cs == 0) (all_decided css []) h).0)
+no-line-left (cs ∷ css) [] (suc s) h = no-line-left css [] s (and_parts (length cs == 0) (all_decided css []) h).1
+no-line-left (cs ∷ css) (ls ∷ lss) zero h = omega (arith, same-length (length cs) (length ls) (and_parts (length cs == length ls) (all_decided css lss) h).0)
+no-line-left (cs ∷ css) (ls ∷ lss) (suc s) h = no-line-left css lss s (and_parts (length cs == length ls) (all_decided css lss) h).1
 
 past-end : {A : Type 0} (xs : List A) → slice_get xs (length xs) ≡ None
 past-end [] = refl
@@ -73,11 +70,11 @@ record Rested (g : BenchSetting) (w : World) : Type 0 where
 
 rested : (g : BenchSetting) (w : World) → drained g w ≡ true → Rested g w
 rested g w h =
-    let a : (all_decided g.submitters w.lines ≡ true) × _ = both _ _ h in
-    let b : (length g.acts == length w.acts ≡ true) × _ = both _ _ a.1 in
-    let c : (not (list_any lives w.desk.tickets) ≡ true) × _ = both _ _ b.1 in
-    let d : (list_all (λ (n : ℕ). n == 0) w.desk.due ≡ true) × _ = both _ _ c.1 in
-    let e : (front w == FRONT_IDLE ≡ true) × (is_run w.stop ≡ true) = both _ _ d.1 in
+    let a : (all_decided g.submitters w.lines ≡ true) × _ = and_parts _ _ h in
+    let b : (length g.acts == length w.acts ≡ true) × _ = and_parts _ _ a.1 in
+    let c : (not (list_any lives w.desk.tickets) ≡ true) × _ = and_parts _ _ b.1 in
+    let d : (list_all (λ (n : ℕ). n == 0) w.desk.due ≡ true) × _ = and_parts _ _ c.1 in
+    let e : (front w == FRONT_IDLE ≡ true) × (is_run w.stop ≡ true) = and_parts _ _ d.1 in
     record { lines = a.0; acts = same-length _ _ b.0; freed = was_not _ c.0; due = d.0; runs = e.1 }
 
 -- ---- steps

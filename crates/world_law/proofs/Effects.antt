@@ -1,6 +1,7 @@
 -- What each recorded step leaves: of the tickets, the reports, the lines and the due signals.
 use Rattle.std.proofs.Common.{arith, ◌≡◌, ◌≢◌, ◌<◌, ◌≤◌, ℕ, zero, suc, ◌+◌, ◌==◌, Bool, true, false, ◌&&◌, ◌||◌, not, List, [], ◌∷◌, ◌++◌, length, slice_get, slice_set, slice_index_or, Option, Some, None, refl, sym, ap, subst, ◌∙◌, ◌⊎◌, inl, inr}
 use Rattle.std.specs.List.{list_any}
+use Rattle.std.proofs.lemmas.Bool.{and_parts}
 use Rattle.std.proofs.lemmas.Bool.Decides.{nat_tests}
 use Rattle.std.proofs.lemmas.List.{get_or-set_other}
 use Rattle.rig_types.specs.declared.commands.Command.{Command}
@@ -230,14 +231,10 @@ either-way (stage.Ended o) b h = absurd cc
 either-way stage.Unlinked b h = absurd cc
 either-way stage.Freed b h = absurd cc
 
-parts : (a b : Bool) → a && b ≡ true → (a ≡ true) × (b ≡ true)
-parts true b h = (refl, h)
-parts false b h = absurd cc
-
 lost-way : (w : World) (k : Ticket) (o : Option Cause) → loses w k o ≡ true → (is_freed k.stage ≡ false) × (is_unqueued k.stage ≡ false)
 lost-way w k (Some cause.Rst) h = either-way k.stage (not (waits w.memory w.desk k)) h
 lost-way w k (Some (cause.Sir v)) h =
-    queued-way k.stage (not (waits w.memory w.desk k)) (parts (passed w.memory w.desk k) _ (parts (v == job_done) _ h).1).0
+    queued-way k.stage (not (waits w.memory w.desk k)) (and_parts (passed w.memory w.desk k) _ (and_parts (v == job_done) _ h).1).0
 lost-way w k None h = absurd cc
 lost-way w k (Some cause.Iid) h = absurd cc
 lost-way w k (Some cause.Bf) h = absurd cc
@@ -246,7 +243,7 @@ lost-way w k (Some cause.Udc) h = absurd cc
 lost-way w k (Some cause.Sto) h = absurd cc
 
 swept-way : (w : World) (k : Ticket) → to_sweep w k ≡ true → (is_freed k.stage ≡ false) × (is_unqueued k.stage ≡ false)
-swept-way w k h = lost-way w k (cause_of w.regs) (parts _ _ (parts _ _ (parts (is_clear w.stop) _ h).1).1).1
+swept-way w k h = lost-way w k (cause_of w.regs) (and_parts _ _ (and_parts _ _ (and_parts (is_clear w.stop) _ h).1).1).1
 
 -- whatever is made of a ticket that is taken
 taken-as : (sensing again check : Bool) (m : List ℕ) (k : Ticket)

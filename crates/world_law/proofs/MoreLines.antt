@@ -18,7 +18,7 @@ use Rattle.world_law.specs.Runs.{Moment, decides_line, is_recorded, IsRun}
 use Rattle.world_law.specs.Laws.{longer}
 use Rattle.world_law.proofs.Effects.{LinesGo, Effect, effect}
 use Rattle.world_law.proofs.Drained.{no-line-left}
-use Rattle.world_law.proofs.Tickets.{same-or-not}
+use Rattle.bus_law.proofs.OneConnected.{same-or-not}
 
 -- ---- lists
 

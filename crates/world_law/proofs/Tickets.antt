@@ -2,6 +2,7 @@
 use Rattle.std.proofs.Common.{arith, ◌≡◌, ◌≢◌, ◌<◌, ◌≤◌, ℕ, zero, suc, ◌+◌, Bool, true, false, List, [], ◌∷◌, ◌++◌, length, slice_set, slice_index_or, Option, refl, sym, ap, subst, ◌∙◌, ◌⊎◌, inl, inr}
 use Rattle.std.proofs.lemmas.List.{get_or-set_same, get_or-set_other, length-set, length-append}
 use Rattle.rig_types.specs.declared.report.Report.{Report}
+use Rattle.bus_law.proofs.OneConnected.{same-or-not}
 use Rattle.desk_law.specs.declared.ticket.Ticket.{Ticket}
 use Rattle.desk_law.specs.Desk.{no_ticket, is_freed}
 use Rattle.world_law.specs.Lines.{is_unqueued}
@@ -10,15 +11,6 @@ use Rattle.world_law.proofs.Effects.{IsTold, GoesOn, OneChanges, OneMore, Change
 
 abbrev at : List Ticket → ℕ → Ticket
 at ks t = slice_index_or ks t no_ticket
-
-pub same-or-not : (a b : ℕ) → (a ≡ b) ⊎ (a ≢ b)
-same-or-not zero zero = inl refl
-same-or-not zero (suc b) = inr (λ e. absurd (omega (arith, e)))
-same-or-not (suc a) zero = inr (λ e. absurd (omega (arith, e)))
-same-or-not (suc a) (suc b) = elim (same-or-not a b) [
-  | inl e ↦ inl (ap (λ (n : ℕ). suc n) e)
-  | inr n ↦ inr (λ e. n (omega (arith, e)))
-]
 
 -- a place of a longer list is one of the list, or that of the new one
 more-at : (ks : List Ticket) (k : Ticket) (t : ℕ) → ((at (ks ++ k ∷ []) t ≡ at ks t) × (t ≢ length ks)) ⊎ ((at (ks ++ k ∷ []) t ≡ k) × (length ks ≤ t))
