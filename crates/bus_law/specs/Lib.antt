@@ -1,4 +1,5 @@
 pub mod Bus
+pub mod Rooms
 pub mod Choices
 pub mod Bytes
 pub mod Reselections

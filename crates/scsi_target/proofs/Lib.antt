@@ -13,4 +13,5 @@ pub mod Resets
 pub mod Tells
 pub mod Choices
 pub mod DistinctTags
+pub mod TaskCounts
 pub mod Disconnects

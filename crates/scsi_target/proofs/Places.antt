@@ -12,7 +12,7 @@ use Rattle.unit_law.proofs.Views.{same_or_not}
 use Rattle.unit_tasks.specs.declared.queued.QueuedUnit.{QueuedUnit}
 use Rattle.unit_tasks.specs.Units.{unit_of}
 use Rattle.unit_tasks.proofs.Drops.{length-unit_reset}
-use Rattle.target_law.specs.Devices.{DeviceState, lie_within, reserved_for, device_reserved}
+use Rattle.target_law.specs.Devices.{DeviceState, lie_within, reserved_for, device_reserved, device_lowered}
 use Rattle.scsi_target.specs.Views.{link_of, device_of, IsDevice}
 use Rattle.scsi_target.specs.declared.connection_state.ConnectionState.{ConnectionState as HeldState}
 use Rattle.scsi_target.specs.Slots.{slot_of, room_of, At, slot_after, all_can_reset}
@@ -133,6 +133,13 @@ reserved_is slots link lun n old new e u r =
     ap (λ (us : List (Option LogicalUnit)). record { target = record { units = us; link = link_of link }; rooms = map room_of (slice_set slots lun (Some new)) }) (units_stay slots lun old new e u)
     ∙ ap (λ (rs : List ℕ). record { target = record { units = map slot_of slots; link = link_of link }; rooms = rs }) rooms
     ∙ sym (ap (λ (o : Option LogicalUnit). reserved_for (device_of slots link) lun n o) (unit_there slots lun old e))
+
+-- the device once the room of a unit's log was lowered
+pub lowered_is : (slots : List (Option QueuedUnit)) (link : HeldState) (lun room : ℕ) (old new : QueuedUnit) → slice_get slots lun ≡ Some (Some old) → unit_of new ≡ unit_of old
+    → new.core.log.room ≡ room → device_of (slice_set slots lun (Some new)) link ≡ device_lowered (device_of slots link) lun room
+lowered_is slots link lun room old new e u r =
+    ap (λ (us : List (Option LogicalUnit)). record { target = record { units = us; link = link_of link }; rooms = map room_of (slice_set slots lun (Some new)) }) (units_stay slots lun old new e u)
+    ∙ ap (λ (rs : List ℕ). record { target = record { units = map slot_of slots; link = link_of link }; rooms = rs }) (map-set room_of slots lun (Some new) ∙ ap (λ (n : ℕ). slice_set (map room_of slots) lun n) r)
 
 -- a place that was read, of a LUN in range
 pub place_read : (slots : List (Option QueuedUnit)) (lun : ℕ) (o p : Option QueuedUnit) → length slots ≡ 8 → lun < 8 → o ≡ slice_index_or slots lun o → o ≡ p → slice_get slots lun ≡ Some p

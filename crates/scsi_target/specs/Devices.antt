@@ -1,5 +1,5 @@
 -- A device as its callers see it: what the conditions of its calls ask of its state. Source: own.
-use Rattle.std.specs.Prelude.{◌≡◌, ℕ, Bool, true, false, List, [], ◌∷◌, Option, Some, None}
+use Rattle.std.specs.Prelude.{◌≡◌, ℕ, Bool, true, false, List, [], ◌∷◌, length, Option, Some, None}
 use Rattle.std.specs.List.{All, AllPairs}
 use Rattle.rig_types.specs.declared.rig.Unit.{Unit as RigUnit}
 use Rattle.rig_types.specs.Ranges.{IsUnit, Agree}
@@ -7,6 +7,7 @@ use Rattle.target_law.specs.declared.nexus.Nexus.{Nexus}
 use Rattle.target_law.specs.Target.{Target, unit_at}
 use Rattle.target_law.specs.Calls.{is_free, is_absent, nexus_of}
 use Rattle.target_law.specs.Beginning.{has_place}
+use Rattle.target_law.specs.Sound.{HaveFewTasks}
 use Rattle.target_law.specs.Devices.{DeviceState}
 use Rattle.target_law.specs.Lawful.{IsThere}
 
@@ -40,3 +41,9 @@ place_for t None = true
 
 abbrev pub HasPlace : DeviceState → Type 0
 HasPlace d = place_for d.target (nexus_of d.target.link) ≡ true
+
+-- what a device keeps: eight places for units and a room for each, and no unit has more tasks than its depth, the connected one among them
+pub record KeepsPlaces (d : DeviceState) : Type 0 where
+  pub units : length d.target.units ≡ 8
+  pub rooms : length d.rooms ≡ 8
+  pub few : HaveFewTasks d.target

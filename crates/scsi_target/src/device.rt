@@ -1,13 +1,13 @@
 //! The device: its opening, and what can be read of it.
 
-ghost use Rattle.std.specs.Prelude.{◌≡◌, ◌<◌, ◌+◌, ℕ, Some, None, true, false, not, length, map, replicate, vec_len, slice_get, IfOk, IfSome, OnOk, OnErr};
+ghost use Rattle.std.specs.Prelude.{◌≡◌, ◌<◌, ◌≤◌, ◌+◌, ℕ, Some, None, true, false, not, length, map, replicate, vec_len, slice_get, IfOk, IfSome, OnOk, OnErr};
 ghost use Rattle.std.specs.List.{list_any};
 ghost use Rattle.plain_lun.specs.Unit.{blocks_of};
 ghost use Rattle.plain_lun.specs.Performing.{blocks_at};
 ghost use Rattle.target_law.specs.Target.{unit_at};
 ghost use Rattle.target_law.specs.Calls.{is_free, is_rogue, is_rogue_connected, is_absent, answers, link_phase, nexus_of, candidates};
 ghost use Rattle.target_law.specs.Beginning.{has_place};
-ghost use Rattle.target_law.specs.Devices.{room_at, device_opened, device_reserved};
+ghost use Rattle.target_law.specs.Devices.{room_at, device_opened, device_reserved, device_lowered};
 ghost use Rattle.target_law.specs.Lawful.{IsThere};
 ghost use Rattle.target_law.specs.Rigs.{rig_of};
 ghost use Rattle.scsi_target.specs.Devices.{IsOneTarget, IsPresent, first_is_rogue, HasUnit, place_for};
@@ -79,6 +79,33 @@ impl Device {
     {
         match &mut self.units[lun as usize] {
             Some(unit) => unit.core.log.reserve(n),
+            None => unreachable!(),
+        }
+    }
+
+    /// How many entries a unit's log has room for in all.
+    ///
+    /// Condition: the LUN is there.
+    pub fn room(&self, lun: u8) -> usize
+        requires { HasUnit self.now lun }
+        ensures room { result ≡ room_at self.now lun }
+        ensures fits { IsThere (unit_at self.now.target.units lun) (λ u. length u.log ≤ result) }
+    {
+        match &self.units[lun as usize] {
+            Some(unit) => unit.core.log.room(),
+            None => unreachable!(),
+        }
+    }
+
+    /// Lowers the room of a unit's log to this many entries in all; nothing else changes. The memory stays with the log.
+    ///
+    /// Condition: the LUN is there, its entries fit in the room, and that is no more than it was.
+    pub fn lower_room(&mut self, lun: u8, room: usize)
+        requires { IsThere (unit_at self.old.target.units lun) (λ u. (length u.log ≤ room) × (room ≤ room_at self.old lun)) }
+        ensures { self.new ≡ device_lowered self.old lun room }
+    {
+        match &mut self.units[lun as usize] {
+            Some(unit) => unit.core.log.lower_room(room),
             None => unreachable!(),
         }
     }

@@ -6,6 +6,7 @@ ghost use Rattle.target_law.specs.Target.{target_reset, unit_at};
 ghost use Rattle.target_law.specs.Calls.{link_phase, WaitsForAck, target_messaged, target_acked};
 ghost use Rattle.target_session.specs.Sessions.{heard_on};
 ghost use Rattle.target_law.specs.Devices.{where_room};
+ghost use Rattle.scsi_target.specs.Devices.{KeepsPlaces};
 ghost use Rattle.scsi_target.specs.TaskExits.{exit_of};
 ghost use Rattle.scsi_target.specs.Messages.{exit_for, link_named};
 ghost use Rattle.scsi_target.specs.Slots.{slot_of};
@@ -39,9 +40,11 @@ impl Device {
     }
 
     /// Resets every unit of the target, for any cause, and frees the bus. Where a log has no room for the entries
-    /// of that, nothing changes.
+    /// of that, nothing changes; they are no more than one for each task of the depth and one more, since no unit
+    /// has more tasks.
     pub fn reset(&mut self)
-        ensures { self.new ≡ where_room self.old (target_reset self.old.target) }
+        ensures state { self.new ≡ where_room self.old (target_reset self.old.target) }
+        ensures places { KeepsPlaces self.old }
     {
         let link = mem::replace(&mut self.link, ConnectionState::BusFree);
         self.link = reset(&mut self.units, link);

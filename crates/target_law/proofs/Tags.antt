@@ -82,7 +82,7 @@ shift : (us : List (Option LogicalUnit)) (lun k : ℕ) (v w : LogicalUnit) → (
 shift us lun k v w (inl p) = inl (ap suc p.0, p.1)
 shift us lun k v w (inr p) = inr ((λ e. p.0 (let f : k ≡ lun = cc in f)), p.1)
 
-at-with : (us : List (Option LogicalUnit)) (lun k : ℕ) (v w : LogicalUnit) → unit_at (with_unit us lun v) k ≡ Some w → ((k ≡ lun) × (w ≡ v)) ⊎ ((k ≢ lun) × (unit_at us k ≡ Some w))
+pub at-with : (us : List (Option LogicalUnit)) (lun k : ℕ) (v w : LogicalUnit) → unit_at (with_unit us lun v) k ≡ Some w → ((k ≡ lun) × (w ≡ v)) ⊎ ((k ≢ lun) × (unit_at us k ≡ Some w))
 unfolding unit_at with_unit
 at-with [] lun k v w e = cc
 at-with (x ∷ us) zero zero v w e = let same : w ≡ v = cc in inl (refl, same)

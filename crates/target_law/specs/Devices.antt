@@ -38,3 +38,7 @@ reserved_for d lun n (Some u) = record { target = d.target; rooms = slice_set d.
 
 unfoldable pub device_reserved : DeviceState → (lun n : ℕ) → DeviceState
 device_reserved d lun n = reserved_for d lun n (unit_at d.target.units lun)
+
+-- the device once the room of a log was lowered to so many entries
+abbrev pub device_lowered : DeviceState → (lun room : ℕ) → DeviceState
+device_lowered d lun room = record { target = d.target; rooms = slice_set d.rooms lun room }

@@ -1,9 +1,9 @@
 -- Laws of targets.
-use Rattle.std.specs.Prelude.{◌≡◌, ℕ, ◌≤◌, false, true, List, [], ◌∷◌, ◌++◌, length, Option, Some, None}
+use Rattle.std.specs.Prelude.{◌≡◌, ℕ, ◌+◌, ◌≤◌, false, true, List, [], ◌∷◌, ◌++◌, length, Option, Some, None}
 use Rattle.target_law.specs.declared.moves.Move.{Move}
 use Rattle.target_law.specs.declared.nexus.Nexus.{Nexus}
 use Rattle.rig_types.specs.declared.rig.Unit.{Unit as RigUnit}
-use Rattle.target_law.specs.Sound.{HaveDistinctTags}
+use Rattle.target_law.specs.Sound.{HaveDistinctTags, HaveFewTasks}
 use Rattle.target_law.specs.Target.{LogicalUnit, TakingCommand, Target, unit_at, linked, target_opened, target_reset}
 use Rattle.target_law.specs.Calls.{link_phase, is_whole, whole_by, asked_by, link_byte, sent_if, link_takes, took_if, target_selected, target_reselected, target_acted, target_messaged, target_acked, target_begun}
 use Rattle.target_law.specs.Beginning.{target_took}
@@ -18,6 +18,9 @@ pub record RigsStay : Type 0 where
   pub selected : KeepsRigs target_selected
   pub reselected : (lun n tag : ℕ) → KeepsRigs (λ t. target_reselected t lun n tag)
   pub acted : (m : Move) → KeepsRigs (λ t. target_acted t m)
+  pub asked : KeepsRigs (λ t. linked t (asked_by t.link))
+  pub sent : KeepsRigs (λ t. linked t (sent_if (link_byte t.link) t.link))
+  pub taken : (b : ℕ) → KeepsRigs (λ t. linked t (took_if (link_takes t.link) t.link b))
   pub messaged : KeepsRigs target_messaged
   pub acked : KeepsRigs target_acked
   pub reset : KeepsRigs target_reset
@@ -54,3 +57,8 @@ pub record BeginsAtOnce : Type 0 where
 pub record LiesByRooms : Type 0 where
   pub each : (d : DeviceState) (units : List (Option LogicalUnit)) → lie_within units d.rooms ≡ true → (lun : ℕ) (u : LogicalUnit) → unit_at units lun ≡ Some u → length u.log ≤ room_at d lun
   pub all : (d : DeviceState) (units : List (Option LogicalUnit)) → ((lun : ℕ) (u : LogicalUnit) → unit_at units lun ≡ Some u → length u.log ≤ room_at d lun) → lie_within units d.rooms ≡ true
+
+-- where no unit has more tasks than its depth, a reset logs no more than an entry for each task of the depth and one more
+abbrev pub ResetsHaveRoom : Type 0
+ResetsHaveRoom = (d : DeviceState) → HaveFewTasks d.target → ((lun : ℕ) (u : LogicalUnit) → unit_at d.target.units lun ≡ Some u → length u.log + (u.rig.depth + 1) ≤ room_at d lun)
+    → lie_within (target_reset d.target).units d.rooms ≡ true

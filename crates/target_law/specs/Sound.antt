@@ -80,3 +80,7 @@ tasks_at _ lun u = u.tasks
 -- no two tasks of a unit have one tag
 abbrev pub HaveDistinctTags : Target → Type 0
 HaveDistinctTags t = (lun : ℕ) (u : LogicalUnit) → unit_at t.units lun ≡ Some u → AllPairs (λ (j : Task) (k : Task). j.tag ≢ k.tag) (tasks_at t.link lun u)
+
+-- no unit has more tasks than its depth, the connected one among them
+abbrev pub HaveFewTasks : Target → Type 0
+HaveFewTasks t = (lun : ℕ) (u : LogicalUnit) → unit_at t.units lun ≡ Some u → length (tasks_at t.link lun u) ≤ u.rig.depth

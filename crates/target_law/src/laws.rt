@@ -1,6 +1,6 @@
 //! Laws of targets. Each function does nothing; its contract is the law.
 
-ghost use Rattle.target_law.specs.Laws.{RigsStay, TagsStayDistinct, BeginsAtOnce, LiesByRooms};
+ghost use Rattle.target_law.specs.Laws.{RigsStay, TagsStayDistinct, BeginsAtOnce, LiesByRooms, ResetsHaveRoom};
 
 /// No call changes what the rig says of a target's units.
 pub fn rigs_stay()
@@ -21,4 +21,10 @@ pub fn begins_at_once()
 /// Logs lie within their rooms exactly where each is no longer than the room of its LUN. A room that is missing is 0.
 pub fn lies_by_rooms()
     ensures { LiesByRooms }
+{}
+
+/// A reset of a target has room where no unit has more tasks than its depth, and each log has room for that many entries
+/// and one more.
+pub fn resets_have_room()
+    ensures { ResetsHaveRoom }
 {}

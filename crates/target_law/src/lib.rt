@@ -9,7 +9,7 @@ mod nexus;
 mod rogue_phase;
 mod task_phase;
 
-pub use laws::{begins_at_once, lies_by_rooms, rigs_stay, tags_stay_distinct};
+pub use laws::{begins_at_once, lies_by_rooms, resets_have_room, rigs_stay, tags_stay_distinct};
 pub use moves::Move;
 pub use nexus::Nexus;
 pub use rogue_phase::RoguePhase;

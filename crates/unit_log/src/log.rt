@@ -61,6 +61,25 @@ impl UnitLog {
         Ok(())
     }
 
+    /// Lowers the room to this many entries in all. The memory stays with the log.
+    ///
+    /// Condition: the entries fit in it, and it is no more than the room was.
+    pub fn lower_room(&mut self, room: usize)
+        requires fits { length self.old.entries ≤ room }
+        requires lower { room ≤ self.old.room }
+        ensures { self.new ≡ record { entries = self.old.entries; room = room } }
+    {
+        self.room = room;
+    }
+
+    /// How many entries there is room for in all.
+    pub fn room(&self) -> usize
+        ensures room { result ≡ self.now.room }
+        ensures fits { length self.now.entries ≤ result }
+    {
+        self.room
+    }
+
     /// How many more entries there is room for.
     pub fn spare(&self) -> usize
         ensures { result ≡ self.now.room - length self.now.entries }

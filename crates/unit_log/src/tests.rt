@@ -26,6 +26,10 @@ fn counts_each_ticket_by_itself(rt: HostRuntime) -> Result<(), Fail> {
     assert!(rt; !log.has_ended(7));
     assert!(rt; log.entry(4) == Some(LogEntry::End(3)));
     assert!(rt; log.entry(5).is_none());
+    log.reserve(9)?;
+    assert_eq!(rt; log.room(), 14);
+    log.lower_room(6);
+    assert_eq!(rt; log.spare(), 1);
     is_send(&log);
     Ok(())
 }

@@ -11,7 +11,7 @@ use Rattle.cmd_block.specs.declared.Field.TheVariants.{Sel}
 use Rattle.opening_memory.specs.Laws.{HasFixedBlocks}
 use Rattle.chip_regs.specs.declared.registers.Regs.{Regs}
 use Rattle.bus_law.specs.Bus.{BusState}
-use Rattle.world_law.specs.Rooms.{with_room_at}
+use Rattle.bus_law.specs.Rooms.{with_room_at}
 use Rattle.word_owners.specs.Tickets.{Tickets, tickets_of, block_of, AreTickets}
 use Rattle.word_owners.specs.Points.{Link, OfTicket, OfTarget, Nobody, Anyone}
 use Rattle.word_owners.specs.Parts.{Counts}

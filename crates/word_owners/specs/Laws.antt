@@ -17,7 +17,7 @@ use Rattle.world_law.specs.Steps.{taken as with_taken, FreesTicket}
 use Rattle.world_law.specs.declared.reply.Reply.{Reply}
 use Rattle.world_law.specs.Repairs.{Fixes}
 use Rattle.world_law.specs.Resets.{sweeps, resets, restarts}
-use Rattle.world_law.specs.Rooms.{with_room_at}
+use Rattle.bus_law.specs.Rooms.{with_room_at}
 use Rattle.world_law.specs.Acts.{is_late}
 use Rattle.world_law.specs.Opening.{opened}
 use Rattle.word_owners.specs.Points.{Point, about, At000, At020, At028, At070, At078, At090, At0D0, At120, At140, At158, At1D8, At1E0, At1E8, At1F0, At200, At208, At210, At218, At220, At228, At230, At240, At248, At250, At270, At290, At340, At3C8, At3D0, At3D8, At448, At450, At458, At018Idle, At018Job, At018Sense, At040Idle, At048, At1A8, At1A8Bad, At1A8None, At1B0, At1B0None, At1B8None, At1C0, At298, At440}

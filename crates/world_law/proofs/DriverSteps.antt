@@ -17,7 +17,7 @@ use Rattle.world_law.specs.declared.reply.Decided.TheVariants as line
 use Rattle.world_law.specs.declared.reply.Reply.{Reply}
 use Rattle.world_law.specs.declared.reply.Reply.TheVariants as reply
 use Rattle.world_law.specs.World.{BenchSetting, World, command_at}
-use Rattle.world_law.specs.Rooms.{with_room_at}
+use Rattle.bus_law.specs.Rooms.{with_room_at}
 use Rattle.world_law.specs.Repairs.{fixed, Fixes}
 use Rattle.world_law.specs.Builds.{decides, refuses, is_tried_again, Accepts, BuildsBy, BuildsOf}
 use Rattle.world_law.specs.Acts.{ActsOf}

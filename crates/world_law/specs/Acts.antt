@@ -19,7 +19,7 @@ use Rattle.world_law.specs.declared.reply.Reply.TheVariants as reply
 use Rattle.world_law.specs.declared.reply.Stop.{Stop}
 use Rattle.world_law.specs.declared.reply.Stop.TheVariants as stop
 use Rattle.world_law.specs.World.{World, decided, front}
-use Rattle.world_law.specs.Rooms.{with_room_at}
+use Rattle.bus_law.specs.Rooms.{with_room_at}
 use Rattle.world_law.specs.Resets.{resets}
 
 -- what an act answers, and the world after it

@@ -15,7 +15,7 @@ use Rattle.world_law.specs.declared.reply.Decided.TheVariants as line
 use Rattle.world_law.specs.declared.reply.Reply.{Reply}
 use Rattle.world_law.specs.declared.reply.Reply.TheVariants as reply
 use Rattle.world_law.specs.World.{World, lines_of}
-use Rattle.world_law.specs.Rooms.{with_room_at}
+use Rattle.bus_law.specs.Rooms.{with_room_at}
 
 -- the next line of a submitter is decided
 abbrev pub decides : World → Line → Decided → World

@@ -6,7 +6,6 @@ pub mod Enabling
 pub mod Seeing
 pub mod ChipSteps
 pub mod Repairs
-pub mod Rooms
 pub mod Resets
 pub mod Builds
 pub mod Acts

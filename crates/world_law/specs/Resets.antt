@@ -16,7 +16,7 @@ use Rattle.world_law.specs.declared.reply.Stop.{Stop}
 use Rattle.world_law.specs.declared.reply.Stop.TheVariants as stop
 use Rattle.world_law.specs.World.{World}
 use Rattle.world_law.specs.Stops.{in_tail}
-use Rattle.world_law.specs.Rooms.{with_all_room}
+use Rattle.bus_law.specs.Rooms.{with_all_room}
 
 -- ---- Sweep
 

@@ -10,7 +10,7 @@ pub loop-i-preserved : goal.loop-i-preserved
 loop-i-preserved c =
     let ok = c.args.devices.now.ok in
     record {
-      devices = step-more device_reset c.args.devices.now.items c.loop-i.devices.items c.loop-i.i c.index_mut.result.now c.reset.new.self c.loop-i.invariant.devices c.index_mut.ensures.value c.reset.ensures (omega arith);
+      devices = step-more device_reset c.args.devices.now.items c.loop-i.devices.items c.loop-i.i c.index_mut.result.now c.reset.new.self c.loop-i.invariant.devices c.index_mut.ensures.value c.reset.ensures.state (omega arith);
       count = c.loop-i.invariant.count;
     }
 

@@ -5,6 +5,7 @@ use Rattle.scsi_target.specs.Held.{IsHeldDevice}
 use Rattle.scsi_target.specs.Views.{device_of}
 use Rattle.scsi_target.specs.declared.connection_state.ConnectionState.{ConnectionState as HeldState}
 use Rattle.scsi_target.proofs.DistinctTags.{told_where}
+use Rattle.scsi_target.proofs.TaskCounts.{places_seen}
 use Rattle.scsi_target.proofs.device.Device.reset.Goals as goal
 
 pub invariant_of-self : goal.invariant_of-self
@@ -15,3 +16,6 @@ invariant_of-self c =
       device = c.reset.ensures.device c.self.inside.rogue old.device;
       tags = told_where (device_of c.self.inside.units.items c.replace-link.result) (target_reset (device_of c.self.inside.units.items c.replace-link.result).target) c.reset.new.units.items c.reset.result c.reset.ensures.state old.tags (tags_stay.reset _ old.tags);
     }
+
+pub returns-clause-places : goal.returns-clause-places
+returns-clause-places c = places_seen c.args.self.now (vec_len c.self.inside.units) c.self.inside.units.items c.self.inside.link c.self.inside.rogue c.self.view_is c.self.invariant.device
