@@ -1,0 +1,8 @@
+use Rattle.std.proofs.Common.{rules, refl, ◌/◌, ◌<◌, length}
+use Rattle.byte_set.proofs.Bits.{bit_set}
+use Rattle.byte_set.proofs.ByteSet.insert.Goals as goal
+
+pub returns : goal.returns
+returns c =
+    let within : c.args.byte / 64 < length c.self.inside.words = search rules in
+    rw (← c.self.view_is) (bit_set c.self.inside.words c.args.byte _ within refl)

@@ -1,0 +1,5 @@
+use Rattle.std.proofs.Common.{◌≡◌, ℕ, ◌<◌, get_or}
+use Rattle.byte_set.proofs.ByteSet.least.Given as goal
+
+abbrev pub invariant-loop-w : goal.invariant-loop-w
+invariant-loop-w l = (j : ℕ) → j < l.w → get_or l.self-inside.words j 0 ≡ 0
