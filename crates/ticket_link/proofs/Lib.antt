@@ -2,3 +2,4 @@ pub mod Tags
 pub mod Tasks
 pub mod Others
 pub mod IdleCalls
+pub mod WorkCalls

@@ -1,6 +1,7 @@
 //! Laws of tags and tasks. Each function does nothing; its contract is the law.
 
 ghost use Rattle.ticket_link.specs.Laws.{TagsNameOne, ConnectedIsItsTicket, WaitingAreTheirTickets, OneTargetMoves, IdleCallsRelink};
+ghost use Rattle.ticket_link.specs.WorkCalls.{WorkCallsMove};
 
 /// Where each Build takes a tag that no live ticket of the unit has, a tag of a unit names at most one live ticket,
 /// after every list of moves.
@@ -24,4 +25,10 @@ pub fn one_target_moves()
 /// acknowledgement change its link alone, and are moves of the machine; BUS DEVICE RESET is a reset of the target.
 pub fn idle_calls_relink()
     ensures { IdleCallsRelink }
+{}
+
+/// A byte, a message and an acknowledgement in a task's connection, an ATN, and BUS DEVICE RESET among them, are each a
+/// move of the machine, which says what its ticket becomes.
+pub fn work_calls_move()
+    ensures { WorkCallsMove }
 {}
