@@ -99,9 +99,9 @@ mark_holds version units s c w t h late =
       outside = λ x o. k.other x (omega arith) (omega arith);
       block = block-marked v n (ticket d t).stage (ts.fixed t) (target_of ts t) late k (h.parts.blocks t live);
       state = inl state;
-      answered = λ e. sym state ∙ e;
+      answered = λ e. inl (sym state ∙ e);
       fresh = λ f. state ∙ h.parts.fresh t f;
-      gate = λ e. (sym gate ∙ e, state);
+      gate = λ k e. (inl (sym gate ∙ e), state);
     } in
     let free = block-patch version units s c w t h few_units m change
     (λ u e. elim (same_or u t) [

@@ -200,13 +200,13 @@ taken-so false false false m w ts t k e a h s = ended-so w ts t k (taken_by fals
 
 -- ---- TakeDone
 
-found : (d : DeskState) (block t : ℕ) → position (has_block block) d.tickets ≡ Some t → (lives (ticket d t) ≡ true) × ((ticket d t).block ≡ block)
+pub found : (d : DeskState) (block t : ℕ) → position (has_block block) d.tickets ≡ Some t → (lives (ticket d t) ≡ true) × ((ticket d t).block ≡ block)
 found d block t e =
     let p = (position-Some (has_block block) d.tickets t no_ticket e).1 in
     let q = both (lives (ticket d t)) ((ticket d t).block == block) p in
     (q.0, equal (ticket d t).block block q.1)
 
-lives-live : (s : Stage) → not (is_freed s) ≡ true → s ≢ stage.Freed
+pub lives-live : (s : Stage) → not (is_freed s) ≡ true → s ≢ stage.Freed
 lives-live s e f = let z : false ≡ true = sym (ap (λ (x : Stage). not (is_freed x)) f) ∙ e in absurd cc
 
 -- a slot that isn't idle is filled
@@ -215,7 +215,7 @@ some-entry v ts c p t e k (inl q) = absurd (omega (arith, p.idle c.taken (omega 
 some-entry v ts c p t e k (inr q) = omega (arith, p.order, q)
 
 -- its ticket is over
-over-at : (v : ℕ → ℕ) (ts : Tickets) (c : Counts) → AreTickets ts → DoneRing v ts c.taken c.entered → (t : ℕ) → IsLive (ts.stage t) → v (done_slot c.taken) ≡ block_of ts t → c.taken < c.entered → IsOver v ts t
+pub over-at : (v : ℕ → ℕ) (ts : Tickets) (c : Counts) → AreTickets ts → DoneRing v ts c.taken c.entered → (t : ℕ) → IsLive (ts.stage t) → v (done_slot c.taken) ≡ block_of ts t → c.taken < c.entered → IsOver v ts t
 over-at v ts c d p t l e more =
     let x = p.entry c.taken (omega arith) more in
     elim (same_or x.0 t) [

@@ -297,9 +297,9 @@ module _ (version : ℕ) (units : List RigUnit) (t : ℕ) (x : DataMove) (left :
         outside = λ i q. o i (omega arith) (omega arith);
         block = block-repaired v n (ts.stage t) (ts.fixed t) (target_of ts t) w.regs.dsp left x (begins-low (ticket w.desk t).direction (length (ticket w.desk t).pieces)) off.dsp off.some repairable h.works.extra r (h.parts.blocks t alive);
         state = inl state;
-        answered = λ q. sym state ∙ q;
+        answered = λ q. inl (sym state ∙ q);
         fresh = λ q. state ∙ h.parts.fresh t q;
-        gate = λ q. (sym gate ∙ q, state);
+        gate = λ k q. (inl (sym gate ∙ q), state);
       } in
       let low = low-same version v n ts c None few_units h.tickets t change in
       let made : HoldsFor version units (Repaired t) c (record w { memory = m; stop = stop.Clear; resume = Some 0x90 }) ts = record {

@@ -1,42 +1,22 @@
 -- The jumps of the script that always hold keep the invariant, over any state of the bus.
-use Rattle.std.proofs.Common.{◌≡◌, ℕ, ◌+◌, ◌*◌, ◌<◌, List, refl, sym, ap, subst, ◌∙◌, arith, Option, Some}
-use Rattle.bench_words.specs.Memory.{word_at}
+use Rattle.std.proofs.Common.{◌≡◌, ℕ, ◌*◌, ◌<◌, List, refl, subst, arith, Some}
 use Rattle.rig_types.specs.declared.rig.Unit.{Unit as RigUnit}
 use Rattle.scripts_ops.specs.declared.values.Condition.TheVariants.{Always}
 use Rattle.scripts_ops.specs.declared.values.Op.TheVariants.{Jump}
 use Rattle.driver_script.specs.Script.{instruction}
 use Rattle.chip_regs.specs.declared.registers.Regs.{Regs}
-use Rattle.chip_step.specs.Chip.{Becomes}
-use Rattle.chip_step.specs.Step.{after_fetch}
-use Rattle.chip_step.specs.declared.outcome.StepEnd.{StepEnd}
 use Rattle.bus_law.specs.Bus.{BusState}
-use Rattle.bus_law.specs.Moves.{moves}
-use Rattle.ownership.specs.Standing.{StandsAt}
-use Rattle.ownership.proofs.Transfers.{jumps_to}
 use Rattle.world_law.specs.declared.reply.Reply.{Reply}
-use Rattle.world_law.specs.World.{World, live}
-use Rattle.world_law.specs.ChipSteps.{chip_of, after_chip, RunsChip}
+use Rattle.world_law.specs.World.{World}
+use Rattle.world_law.specs.ChipSteps.{RunsChip}
 use Rattle.word_owners.specs.Tickets.{Tickets, tickets_of}
-use Rattle.word_owners.specs.Points.{Begun, Ending, Point, about, At000, At0D0, At090, At120, At140, At158, At1E0, At1F0, At200, At208, At220, At270, At290, At1E8, At340, At3C8, At3D8, At458, At070, Link, OfTicket, OfTarget, Nobody, Anyone}
-use Rattle.word_owners.specs.Parts.{Counts, Parts}
+use Rattle.word_owners.specs.Points.{Begun, Ending, Point, about, At000, At0D0, At090, At120, At140, At158, At1E0, At1F0, At200, At208, At220, At270, At290, At1E8, At340, At3C8, At3D8, At458, At070}
+use Rattle.word_owners.specs.Parts.{Counts}
 use Rattle.word_owners.specs.Works.{Works}
 use Rattle.word_owners.specs.Holds.{Holds, Running, AtPoint, Linked}
-use Rattle.word_owners.specs.Laws.{JumpsHold}
-
--- a step that goes on with these registers, and leaves memory and bus
-pub went : (w new : World) (word : ℕ) (answer : Reply) (s : RunsChip w word answer new) (r : Regs) → Becomes r (after_fetch (chip_of w)) s.end s.chip → new ≡ record w { regs = r }
-went w new word answer s r b =
-    s.world
-    ∙ ap (λ (e : StepEnd). after_chip w e s.chip) b.ends.is
-    ∙ ap (λ (m : List ℕ). record w { memory = m; regs = s.chip.regs; bus = s.chip.bus }) b.ends.memory_is
-    ∙ ap (λ (x : Regs). record w { regs = x; bus = s.chip.bus }) b.ends.regs_are
-    ∙ ap (λ (x : BusState). record w { regs = r; bus = x }) b.bus_is
-
-pub linked-fetched : (l : Link) (ts : Tickets) (w : World) (a : ℕ) → Linked l ts w.bus w.regs → Linked l ts w.bus (record (after_fetch (chip_of w)).regs { dsp = a })
-linked-fetched (OfTicket t) ts w a h = h
-linked-fetched (OfTarget i) ts w a h = h
-linked-fetched Nobody ts w a h = h
-linked-fetched Anyone ts w a h = h
+use Rattle.word_owners.proofs.PointGroups.{JumpsHold}
+use Rattle.word_owners.proofs.ChipSteps as step
+use Rattle.bench_words.specs.Memory.{word_at}
 
 -- what stands at two points alike
 record Alike (p q : Point) : Type 0 where
@@ -47,29 +27,14 @@ record Alike (p q : Point) : Type 0 where
   linked : (ts : Tickets) (b : BusState) (r : Regs) → Linked (about p).link ts b r → Linked (about q).link ts b r
 
 module _ (version : ℕ) (units : List RigUnit) (p q : Point) (c : Counts) (w new : World) (word : ℕ) (answer : Reply) (k a : ℕ) where
-  jumped : k < 151 → (about p).place ≡ 8 * k → instruction k version ≡ Jump Always a → (about q).place ≡ a → Alike p q → RunsChip w word answer new → Holds version units (Running p) c w → Holds version units (Running q) c new
-  jumped inside place here to alike s h =
-      let stands : StandsAt version k (chip_of w) = record { size = h.size; loaded = h.parts.loaded; running = h.stays.2; dsp = h.stays.3 ∙ place; inside = inside } in
-      let b = jumps_to (moves w.desk.units (live w.desk)) a (chip_of w) s.end s.chip (record { version = version; k = k; word = word; stands = stands; here = here; ran = s.ran }) in
-      let r : Regs = record (after_fetch (chip_of w)).regs { dsp = a } in
-      let x = alike.at (tickets_of w.desk) c w.regs h.stays.4 in
-      subst (Holds version units (Running q) c) (sym (went w new word answer s r b)) (record {
-        size = h.size;
-        bytes = h.bytes;
-        units_are = h.units_are;
-        few_units = h.few_units;
-        version_is = h.version_is;
-        tickets = h.tickets;
-        checked = h.checked;
-        put = h.put;
-        take = h.take;
-        parts = subst (λ (o : Option ℕ). Parts version (word_at w.memory) (tickets_of w.desk) c o) alike.closing h.parts;
-        tags = h.tags;
-        donep = record { before = h.donep.before; entered = subst (λ (i : ℕ). c.entered ≡ h.donep.before + i) alike.ahead h.donep.entered; is = h.donep.is };
-        works = alike.works (word_at w.memory) (tickets_of w.desk) c h.works;
-        stays = (h.stays.0, h.stays.1, h.stays.2, sym to, record { dsa = x.dsa; temp = x.temp; scratcha = x.scratcha; scratchb = x.scratchb; ssid = x.ssid; sfbr = x.sfbr });
-        linked = linked-fetched (about q).link (tickets_of w.desk) w a (alike.linked (tickets_of w.desk) w.bus w.regs h.linked);
-      })
+  jumped : k < 151 → (about p).place ≡ 8 * k → instruction k version ≡ Jump Always a → a ≡ (about q).place → Alike p q → RunsChip w word answer new → Holds version units (Running p) c w → Holds version units (Running q) c new
+  jumped inside place here to alike s h = step.jumped version units p c w h new word answer s q k a inside place here to (record {
+    closing = alike.closing;
+    ahead = alike.ahead;
+    works = alike.works (word_at w.memory) (tickets_of w.desk) c h.works;
+    at = alike.at (tickets_of w.desk) c w.regs h.stays.4;
+    linked = alike.linked (tickets_of w.desk) w.bus w.regs h.linked;
+  })
 
 ends-work : (t : ℕ) (w : ℕ → ℕ) (ts : Tickets) (c : Counts) → Works (Begun t) w ts c → Works (Ending t 1) w ts c
 ends-work t w ts c h = record { plays = (h.plays.begun, h.plays.out); extra = (omega arith, omega arith, λ e. h.plays.there) }

@@ -348,7 +348,7 @@ queue_holds version units s c w t h x =
             state = inr (aside version v ts c (closing_at s) t h.tickets live still h.parts);
             answered = λ q. absurd (omega (arith, state, q));
             fresh = λ q. state;
-            gate = λ q. absurd (shut (sym gate ∙ q));
+            gate = λ k q. absurd (shut (sym gate ∙ q));
           } in
           let p = block-patch version units s c w t h few_units made change (λ u q. inl (idle-worker version units s c w t h still u q)) (λ q. gate ∙ q)
           (size-fourth w.memory b (begins_at (ticket d t)) h.size place fits ∙ sym h.size)

@@ -2,6 +2,7 @@
 use Rattle.std.proofs.Common.{◌≡◌, ◌⊎◌, inl, inr, ℕ, ◌+◌, ◌≤◌, List, Bool, true, false, refl, sym, ap, subst, ◌∙◌, arith, Option, Some, None}
 use Rattle.std.specs.Prelude.{◌*◌, ◌==◌, ◌&&◌, ◌||◌, if◌then◌else◌, nat_eq, nat_le, unwrap_or}
 use Rattle.host_map.specs.Places.{target_chain, unit_chain}
+use Rattle.phase_fix.specs.Moves.{context_label}
 use Rattle.phase_fix.specs.declared.moves.DataPhase.{DataPhase}
 use Rattle.phase_fix.specs.declared.moves.DataPhase.TheVariants.{In, Out}
 use Rattle.phase_fix.specs.declared.moves.Entry.{Entry}
@@ -141,6 +142,14 @@ move-far In (Context k) = omega arith
 move-far Out (Segment j) = omega arith
 move-far Out (Context k) = omega arith
 
+if-far : (first : Bool) (a b : ℕ) → 0x291 ≤ a → 0x291 ≤ b → 0x291 ≤ (if first then a else b)
+if-far true a b l m = l
+if-far false a b l m = m
+
+pub context-far : (phase : DataPhase) (k : ℕ) → 0x291 ≤ context_label phase k
+context-far In k = if-far (nat_eq k 0) 0x3E0 0x3F8 (omega arith) (omega arith)
+context-far Out k = if-far (nat_eq k 0) 0x410 0x428 (omega arith) (omega arith)
+
 pub not-far : {R : Type 0} (a : ℕ) → 0x291 ≤ a → in_tail a ≡ true → R
 not-far a l e = let z : true ≡ false = sym e ∙ far a l in absurd cc
 
@@ -151,7 +160,7 @@ tail-loose (AtUnit u r) e = not-far (unit_chain u) (omega arith) e
 tail-loose (BehindUnit u r) e = not-far (unit_chain u + 8) (omega arith) e
 tail-loose (Moves t x) e = not-far (move_place x.phase x.entry) (move-far x.phase x.entry) e
 tail-loose (BehindContext t phase k) e = let l = move-far phase (Context k) in not-far (move_place phase (Context k) + 8) (omega arith) e
-tail-loose (LeavesContext t phase j k) e = let l = move-far phase (Context k) in not-far (move_place phase (Context k) + 16) (omega arith) e
+tail-loose (LeavesContext t phase j k) e = let l = context-far phase k in not-far (context_label phase k + 16) (omega arith) e
 tail-loose _ e = cc
 
 loose : (p : Point) (ts : Tickets) (w : World) → (in_tail (about p).place ≡ true) ⊎ (p ≡ At000) → Linked Nobody ts w.bus w.regs → Linked (about p).link ts w.bus w.regs

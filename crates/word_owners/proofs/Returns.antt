@@ -1,25 +1,21 @@
 -- RETURNs of the script keep the invariant, where the address in TEMP is one of the script's own.
-use Rattle.std.proofs.Common.{◌≡◌, ℕ, ◌+◌, ◌*◌, ◌<◌, List, refl, sym, subst, ◌∙◌, arith, Option}
+use Rattle.std.proofs.Common.{◌≡◌, ℕ, ◌*◌, ◌<◌, List, refl, arith}
 use Rattle.bench_words.specs.Memory.{word_at}
 use Rattle.rig_types.specs.declared.rig.Unit.{Unit as RigUnit}
 use Rattle.scripts_ops.specs.declared.values.Condition.TheVariants.{Always}
 use Rattle.scripts_ops.specs.declared.values.Op.TheVariants.{Return}
 use Rattle.driver_script.specs.Script.{instruction}
-use Rattle.chip_regs.specs.declared.registers.Regs.{Regs}
-use Rattle.chip_step.specs.Step.{after_fetch}
-use Rattle.bus_law.specs.Moves.{moves}
-use Rattle.ownership.specs.Standing.{StandsAt}
-use Rattle.ownership.proofs.Transfers.{returns_to}
 use Rattle.world_law.specs.declared.reply.Reply.{Reply}
-use Rattle.world_law.specs.World.{World, live}
-use Rattle.world_law.specs.ChipSteps.{chip_of, RunsChip}
+use Rattle.world_law.specs.World.{World}
+use Rattle.world_law.specs.ChipSteps.{RunsChip}
 use Rattle.word_owners.specs.Tickets.{Tickets, tickets_of}
 use Rattle.word_owners.specs.Points.{Point, about, At018Idle, At018Job, At018Sense, At020, At040Idle, At048, At1A8, At1A8Bad, At1A8None, At1B0, At1B0None, At1B8None, At1C0, At298, At440}
-use Rattle.word_owners.specs.Parts.{Counts, Parts}
+use Rattle.word_owners.specs.Parts.{Counts}
 use Rattle.word_owners.specs.Works.{Works}
 use Rattle.word_owners.specs.Holds.{Holds, Running, AtPoint, Linked}
-use Rattle.word_owners.specs.Laws.{ReturnsHold}
-use Rattle.word_owners.proofs.Jumps.{went, jump-to, linked-fetched}
+use Rattle.word_owners.proofs.PointGroups.{ReturnsHold}
+use Rattle.word_owners.proofs.Jumps.{jump-to}
+use Rattle.word_owners.proofs.ChipSteps as step
 
 -- what a RETURN from one point to another needs
 record Returns (p q : Point) (ts : Tickets) (c : Counts) (w : World) : Type 0 where
@@ -32,28 +28,13 @@ record Returns (p q : Point) (ts : Tickets) (c : Counts) (w : World) : Type 0 wh
 
 module _ (version : ℕ) (units : List RigUnit) (p q : Point) (c : Counts) (w new : World) (word : ℕ) (answer : Reply) (k : ℕ) where
   returned : k < 151 → (about p).place ≡ 8 * k → instruction k version ≡ Return Always → RunsChip w word answer new → Holds version units (Running p) c w → Returns p q (tickets_of w.desk) c w → Holds version units (Running q) c new
-  returned inside place here s h x =
-      let stands : StandsAt version k (chip_of w) = record { size = h.size; loaded = h.parts.loaded; running = h.stays.2; dsp = h.stays.3 ∙ place; inside = inside } in
-      let b = returns_to (moves w.desk.units (live w.desk)) (chip_of w) s.end s.chip (record { version = version; k = k; word = word; stands = stands; here = here; ran = s.ran }) in
-      let r : Regs = record (after_fetch (chip_of w)).regs { dsp = w.regs.temp } in
-      let y = x.at h.stays.4 in
-      subst (Holds version units (Running q) c) (sym (went w new word answer s r b)) (record {
-        size = h.size;
-        bytes = h.bytes;
-        units_are = h.units_are;
-        few_units = h.few_units;
-        version_is = h.version_is;
-        tickets = h.tickets;
-        checked = h.checked;
-        put = h.put;
-        take = h.take;
-        parts = subst (λ (o : Option ℕ). Parts version (word_at w.memory) (tickets_of w.desk) c o) x.closing h.parts;
-        tags = h.tags;
-        donep = record { before = h.donep.before; entered = subst (λ (i : ℕ). c.entered ≡ h.donep.before + i) x.ahead h.donep.entered; is = h.donep.is };
-        works = x.works h.works;
-        stays = (h.stays.0, h.stays.1, h.stays.2, x.temp h.stays.4, record { dsa = y.dsa; temp = y.temp; scratcha = y.scratcha; scratchb = y.scratchb; ssid = y.ssid; sfbr = y.sfbr });
-        linked = linked-fetched (about q).link (tickets_of w.desk) w w.regs.temp (x.linked h.linked);
-      })
+  returned inside place here s h x = step.returned version units p c w h new word answer s q k inside place here (x.temp h.stays.4) (record {
+    closing = x.closing;
+    ahead = x.ahead;
+    works = x.works h.works;
+    at = x.at h.stays.4;
+    linked = x.linked h.linked;
+  })
 
 pub returns_hold : ReturnsHold
 unfolding instruction

@@ -16,6 +16,7 @@ use Rattle.cmd_block.specs.declared.Field.TheVariants.{Start, State, Gate}
 use Rattle.cmd_block.specs.declared.TheConstants.{LIVE, SWEPT}
 use Rattle.driver_script.specs.Script.{label_of}
 use Rattle.driver_script.specs.declared.labels.Name.TheVariants as label
+use Rattle.phase_fix.specs.Moves.{context_label}
 use Rattle.phase_fix.specs.Remain.{field}
 use Rattle.abort_reset.specs.Patches.{Swept, swept}
 use Rattle.abort_reset.proofs.PatchLaws.{swept_is}
@@ -47,7 +48,7 @@ use Rattle.word_owners.proofs.WriteFrames.{BlockChanges, Untouched, low-same}
 use Rattle.word_owners.proofs.ChipPlace.{patched}
 use Rattle.word_owners.proofs.Aborts.{block-patch}
 use Rattle.word_owners.proofs.FrontWrites.{asked-outside}
-use Rattle.word_owners.proofs.Restarts.{move-far, not-far}
+use Rattle.word_owners.proofs.Restarts.{context-far, move-far, not-far}
 use Rattle.word_owners.proofs.Lists.{desk-turns, desk-staged, desk-checked, same-fixed}
 use Rattle.job_rings.proofs.RingLaws.{counts_start_slots}
 use Rattle.word_owners.proofs.Room.{start-room}
@@ -183,7 +184,7 @@ record Sweepable (s : Spot) (w : World) (t : ℕ) : Type 0 where
 tail-block : (p : Point) (u : ℕ) → in_tail (about p).place ≡ true → (role (about p).work ≡ Working u) ⊎ (role (about p).work ≡ Closing u) → (about p).held.dsa ≡ Some OwnBlock
 tail-block (Moves t x) u e f = not-far (move_place x.phase x.entry) (move-far x.phase x.entry) e
 tail-block (BehindContext t phase k) u e f = let l = move-far phase (Context k) in not-far (move_place phase (Context k) + 8) (omega arith) e
-tail-block (LeavesContext t phase j k) u e f = let l = move-far phase (Context k) in not-far (move_place phase (Context k) + 16) (omega arith) e
+tail-block (LeavesContext t phase j k) u e f = let l = context-far phase k in not-far (context_label phase k + 16) (omega arith) e
 tail-block _ u e (inl f) = cc
 tail-block _ u e (inr f) = cc
 
@@ -350,7 +351,7 @@ sweep_holds version units s c w t h e =
       state = inr away;
       answered = λ q. absurd (omega (arith, r.state, q));
       fresh = λ f. not-fresh (ticket d t).stage active f;
-      gate = λ q. absurd (omega (arith, r.gate, q));
+      gate = λ k q. absurd (omega (arith, r.gate, q));
     } in
     let touched : Untouched version v n ts c o few_units h.tickets t change (work_at s) = λ u q. inl (x.idle u q) in
     let p = block-patch version units s c w t h few_units m change touched (λ q. r.gate)

@@ -11,7 +11,7 @@ use Rattle.desk_law.specs.declared.stage.Stage.TheVariants.{Built, Linked, Freed
 use Rattle.word_owners.specs.Tickets.{Tickets, block_of, target_of, goal, way, IsLive, AreTickets}
 use Rattle.word_owners.specs.Pointers.{IsSuffix, move_place}
 use Rattle.word_owners.specs.Points.{Work, Entering, Selected, Ending, Carrying, Moving, Behind, Returning, Naming, Choosing, Finding, Listed, Tagged, InTable, Offset, Candidate, Saved}
-use Rattle.word_owners.specs.Parts.{Counts, Parts, TagTables, Asks, IsBlock, MayWork, HasAnswered, IsFresh}
+use Rattle.word_owners.specs.Parts.{Counts, Parts, TagTables, Asks, IsBlock, IsThere, MayWork, HasAnswered, IsFresh}
 use Rattle.word_owners.specs.Works.{Role, Nothing, First, Asked, Working, Closing, Done, role, worker, Plays, Extra, Works}
 use Rattle.word_owners.proofs.Frames.{Same, SameState, same_or, active-live, other-block, loaded-frame, chains-frame, constants-frame, fixed-frame, segments-same, filled-frame, names-frame, pointer-frame, block-frame, waits-frame, begun-frame, over-frame, start-frame, done-frame, entry-frame, front-frame, not_starting-frame, not_entered-frame}
 use Rattle.word_owners.proofs.StageChanges.{Aside, worker-active}
@@ -74,9 +74,9 @@ module _ (version : ℕ) (w n : ℕ → ℕ) (ts : Tickets) (c : Counts) (o : Op
     pub outside : (x : ℕ) → Outside x (block_of ts t) (block_of ts t + 0x200) → n x ≡ w x
     pub block : IsBlock n (ts.stage t) (ts.fixed t) (target_of ts t)
     pub state : SameState w n ts t ⊎ Aside w ts c t
-    pub answered : field n (block_of ts t) State ≡ 1 → field w (block_of ts t) State ≡ 1
+    pub answered : field n (block_of ts t) State ≡ 1 → (field w (block_of ts t) State ≡ 1) ⊎ IsThere ts t
     pub fresh : IsFresh (ts.stage t) → field n (block_of ts t) State ≡ 0
-    pub gate : field n (block_of ts t) Gate ≡ 0x1B0 → (field w (block_of ts t) Gate ≡ 0x1B0) × SameState w n ts t
+    pub gate : o ≢ Some t → field n (block_of ts t) Gate ≡ 0x1B0 → ((field w (block_of ts t) Gate ≡ 0x1B0) ⊎ MayWork w ts c t) × SameState w n ts t
 
   module _ (d : AreTickets ts) (t : ℕ) (b : BlockChanges t) where
     pub low-same : (x : ℕ) → x + 4 ≤ 0x10000 → n x ≡ w x
@@ -108,21 +108,25 @@ module _ (version : ℕ) (w n : ℕ → ℕ) (ts : Tickets) (c : Counts) (o : Op
       | inr z ↦ state-other u (fresh-live (ts.stage u) f) z ∙ p u f
     ]
 
-    answered-before : (u : ℕ) → IsLive (ts.stage u) → HasAnswered n ts u → HasAnswered w ts u
-    answered-before u l (inl e) = inl e
-    answered-before u l (inr (inl e)) = inr (inl e)
-    answered-before u l (inr (inr e)) = inr (inr (elim (same_or u t) [
-      | inl z ↦ subst (λ (i : ℕ). field w (block_of ts i) State ≡ 1) (sym z) (b.answered (subst (λ (i : ℕ). field n (block_of ts i) State ≡ 1) z e))
-      | inr z ↦ sym (state-other u l z) ∙ e
-    ]))
+    answered-before : (u : ℕ) → IsLive (ts.stage u) → HasAnswered n ts u → HasAnswered w ts u ⊎ IsThere ts u
+    answered-before u l (inl e) = inl (inl e)
+    answered-before u l (inr (inl e)) = inl (inr (inl e))
+    answered-before u l (inr (inr e)) = elim (same_or u t) [
+      | inl z ↦ elim (b.answered (subst (λ (i : ℕ). field n (block_of ts i) State ≡ 1) z e)) [
+        | inl k ↦ inl (inr (inr (subst (λ (i : ℕ). field w (block_of ts i) State ≡ 1) (sym z) k)))
+        | inr k ↦ inr (subst (λ (i : ℕ). IsThere ts i) (sym z) k)
+      ]
+      | inr z ↦ inl (inr (inr (sym (state-other u l z) ∙ e)))
+    ]
 
     starts-same : Same w n 0x2000 0x3000
     starts-same x f g = low-same x (omega arith)
 
-    gates-block : (u : ℕ) → IsLive (ts.stage u) → field n (block_of ts u) Gate ≡ 0x1B0 → (field w (block_of ts u) Gate ≡ 0x1B0) × SameState w n ts u
-    gates-block u l e = elim (same_or u t) [
-      | inl z ↦ subst (λ (i : ℕ). (field w (block_of ts i) Gate ≡ 0x1B0) × SameState w n ts i) (sym z) (b.gate (subst (λ (i : ℕ). field n (block_of ts i) Gate ≡ 0x1B0) z e))
-      | inr z ↦ (sym (gate-other u l z) ∙ e, state-other u l z)
+    gates-block : (u : ℕ) → IsLive (ts.stage u) → o ≢ Some u → field n (block_of ts u) Gate ≡ 0x1B0 → ((field w (block_of ts u) Gate ≡ 0x1B0) ⊎ MayWork w ts c u) × SameState w n ts u
+    gates-block u l k e = elim (same_or u t) [
+      | inl z ↦ subst (λ (i : ℕ). ((field w (block_of ts i) Gate ≡ 0x1B0) ⊎ MayWork w ts c i) × SameState w n ts i) (sym z)
+          (b.gate (λ i. k (i ∙ ap (λ (j : ℕ). Some j) (sym z))) (subst (λ (i : ℕ). field n (block_of ts i) Gate ≡ 0x1B0) z e))
+      | inr z ↦ (inl (sym (gate-other u l z) ∙ e), state-other u l z)
     ]
 
     pub parts-block : Parts version w ts c o → Parts version n ts c o
@@ -142,10 +146,10 @@ module _ (version : ℕ) (w n : ℕ → ℕ) (ts : Tickets) (c : Counts) (o : Op
             block-frame w n (ts.stage u) (ts.fixed u) (target_of ts u) (λ x f g. s x f (omega arith)) (λ x f g. s x (omega arith) (omega arith)) (p.blocks u l)
       ];
       fresh = λ u f. fresh-block u f p.fresh;
-      there = λ u l h. p.there u l (answered-before u l h);
+      there = λ u l h. elim (answered-before u l h) [ inl a ↦ p.there u l a | inr a ↦ a ];
       gates = λ u l k e.
-          let g = gates-block u l e in
-          may-work u g.1 starts-same (low-same 0x1000 (omega arith)) (p.gates u l k g.0);
+          let g = gates-block u l k e in
+          may-work u g.1 starts-same (low-same 0x1000 (omega arith)) (elim g.0 [ inl i ↦ p.gates u l k i | inr i ↦ i ]);
     }
 
     -- ---- the work of the chip

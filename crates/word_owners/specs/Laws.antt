@@ -2,7 +2,6 @@
 use Rattle.std.specs.Prelude.{◌≡◌, ◌⊎◌, ◌+◌, ◌<◌, ◌≤◌, ℕ, Bool, true, false, List, length, Option, Some, None}
 use Rattle.rig_types.specs.declared.rig.Unit.{Unit as RigUnit}
 use Rattle.host_map.specs.declared.TheConstants.{FRONT_IDLE}
-use Rattle.cmd_block.specs.declared.TheConstants.{ENDED, CUT, NO_TARGET}
 use Rattle.abort_reset.specs.Patches.{marked, job_at_front}
 use Rattle.desk_law.specs.declared.stage.Stage.TheVariants.{Built, Linked, Again, Check, Unlinked}
 use Rattle.desk_law.specs.Desk.{ticket, owed, paid}
@@ -11,7 +10,6 @@ use Rattle.desk_law.specs.Calls.{links, link_memory, unlinks, unlink_memory, que
 use Rattle.world_law.specs.World.{BenchSetting, World, front}
 use Rattle.world_law.specs.Enabling.{IsEnded}
 use Rattle.world_law.specs.declared.reply.Stop.TheVariants.{Run, Mismatch, Clear, MustReset}
-use Rattle.world_law.specs.ChipSteps.{RunsChip}
 use Rattle.world_law.specs.Stops.{to_sweep, in_tail, is_ended_by_script}
 use Rattle.world_law.specs.Steps.{taken as with_taken, FreesTicket}
 use Rattle.world_law.specs.declared.reply.Reply.{Reply}
@@ -20,7 +18,7 @@ use Rattle.world_law.specs.Resets.{sweeps, resets, restarts}
 use Rattle.bus_law.specs.Rooms.{with_room_at}
 use Rattle.world_law.specs.Acts.{is_late}
 use Rattle.world_law.specs.Opening.{opened}
-use Rattle.word_owners.specs.Points.{Point, about, At000, At020, At028, At070, At078, At090, At0D0, At120, At140, At158, At1D8, At1E0, At1E8, At1F0, At200, At208, At210, At218, At220, At228, At230, At240, At248, At250, At270, At290, At340, At3C8, At3D0, At3D8, At448, At450, At458, At018Idle, At018Job, At018Sense, At040Idle, At048, At1A8, At1A8Bad, At1A8None, At1B0, At1B0None, At1B8None, At1C0, At298, At440}
+use Rattle.word_owners.specs.Points.{Point, about, At000, At090, At210}
 use Rattle.word_owners.specs.Parts.{Counts}
 use Rattle.word_owners.specs.Holds.{Spot, Holds, Running, Mismatched, Fixed, TimedOut, ResetAt, Broken}
 
@@ -113,59 +111,3 @@ FreeHolds = (version : ℕ) (units : List RigUnit) (s : Spot) (c : Counts) (w ne
 abbrev pub SenseHolds : Type 0
 SenseHolds = (version : ℕ) (units : List RigUnit) (s : Spot) (c : Counts) (w : World) (t : ℕ) → w.stop ≡ Run → (ticket w.desk t).stage ≡ Check → front w ≡ FRONT_IDLE → Holds version units s c w
     → Holds version units s c (record w { memory = sense_memory w.desk t w.memory; desk = senses w.desk t })
-
--- ---- steps of the chip
-
--- where the jumps of the script lead that always hold, from DISPATCH's routines, the tail and the data moves
-abbrev pub jump_point : Point → Option Point
-jump_point (At0D0 t) = Some (At090 t)
-jump_point (At120 t) = Some (At090 t)
-jump_point (At140 t) = Some (At090 t)
-jump_point At158 = Some At000
-jump_point (At1E0 t) = Some (At220 t ENDED)
-jump_point (At1F0 t) = Some (At200 t)
-jump_point (At208 t) = Some (At220 t CUT)
-jump_point At270 = Some At000
-jump_point (At290 t) = Some (At1E8 t)
-jump_point (At340 t) = Some (At3C8 t)
-jump_point (At3D8 t) = Some (At090 t)
-jump_point (At458 t) = Some (At070 t)
-jump_point _ = None
-
-abbrev pub JumpsHold : Type 0
-JumpsHold = (version : ℕ) (units : List RigUnit) (p q : Point) (c : Counts) (w new : World) (word : ℕ) (answer : Reply) → jump_point p ≡ Some q → RunsChip w word answer new → Holds version units (Running p) c w
-    → Holds version units (Running q) c new
-
--- where the LOADs of the script lead that have their word at an address of their own, but the one of FRONT
-abbrev pub load_point : Point → Option Point
-load_point At020 = Some At028
-load_point (At070 t) = Some (At078 t)
-load_point (At1D8 t) = Some (At1E0 t)
-load_point (At200 t) = Some (At208 t)
-load_point (At218 t) = Some (At220 t NO_TARGET)
-load_point (At228 t) = Some (At230 t)
-load_point (At240 t) = Some (At248 t)
-load_point (At248 t) = Some (At250 t)
-load_point (At3C8 t) = Some (At3D0 t)
-load_point (At448 t) = Some (At450 t)
-load_point _ = None
-
-abbrev pub LoadsHold : Type 0
-LoadsHold = (version : ℕ) (units : List RigUnit) (p q : Point) (c : Counts) (w new : World) (word : ℕ) (answer : Reply) → load_point p ≡ Some q → RunsChip w word answer new → Holds version units (Running p) c w
-    → Holds version units (Running q) c new
-
--- where the RETURNs lead by which the blocks at FRONT, an idle slot and the gates of candidates are entered
-abbrev pub return_point : Point → Option Point
-return_point At018Idle = Some At020
-return_point At018Job = Some At298
-return_point (At018Sense t) = Some (At440 t)
-return_point At040Idle = Some At048
-return_point (At1A8 t) = Some (At1B0 t)
-return_point At1A8Bad = Some At1C0
-return_point At1A8None = Some At1B0None
-return_point At1B8None = Some At1C0
-return_point _ = None
-
-abbrev pub ReturnsHold : Type 0
-ReturnsHold = (version : ℕ) (units : List RigUnit) (p q : Point) (c : Counts) (w new : World) (word : ℕ) (answer : Reply) → return_point p ≡ Some q → RunsChip w word answer new → Holds version units (Running p) c w
-    → Holds version units (Running q) c new

@@ -4,6 +4,11 @@ pub mod Parts
 pub mod Points
 pub mod Works
 pub mod Holds
-pub mod Laws
+pub mod Answering
 pub mod DataMoves
 pub mod Buffers
+pub mod Nexts
+pub mod Steps
+pub mod DriverSteps
+pub mod StopCauses
+pub mod Laws

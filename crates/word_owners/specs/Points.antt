@@ -9,7 +9,7 @@ use Rattle.driver_script.specs.declared.labels.Name.TheVariants as label
 use Rattle.phase_fix.specs.declared.moves.DataMove.{DataMove}
 use Rattle.phase_fix.specs.declared.moves.DataPhase.{DataPhase}
 use Rattle.phase_fix.specs.declared.moves.Entry.TheVariants.{Context}
-use Rattle.phase_fix.specs.Moves.{first_segment}
+use Rattle.phase_fix.specs.Moves.{first_segment, context_label}
 use Rattle.word_owners.specs.Pointers.{move_place}
 
 -- What the chip works on, as far as memory tells.
@@ -385,7 +385,7 @@ about (At3C8 t) = at 0x3C8 (Begun t) (OfTicket t) (dsa OwnBlock)
 about (At3D0 t) = at 0x3D0 (Begun t) (OfTicket t) (dsa_scratcha OwnBlock (Number (label_of label.Over)))
 about (At3D8 t) = at 0x3D8 (Begun t) (OfTicket t) (dsa OwnBlock)
 about (BehindContext t phase k) = at (move_place phase (Context k) + 8) (Moving t (record { phase = phase; entry = Context k })) (OfTicket t) (dsa OwnBlock)
-about (LeavesContext t phase j k) = at (move_place phase (Context k) + 16) (Behind t phase j) (OfTicket t) (dsa_temp OwnBlock (Number (first_segment phase + 8 * j)))
+about (LeavesContext t phase j k) = at (context_label phase k + 16) (Behind t phase j) (OfTicket t) (dsa_temp OwnBlock (Number (first_segment phase + 8 * j)))
 about (At440 t) = at 0x440 (Front t) Nobody (dsa OwnBlock)
 about (At448 t) = at 0x448 (Front t) (OfTicket t) (dsa OwnBlock)
 about (At450 t) = at 0x450 (Front t) (OfTicket t) (dsa_scratcha OwnBlock (Number FRONT_IDLE))

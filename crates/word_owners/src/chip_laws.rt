@@ -1,7 +1,10 @@
 //! Laws of the chip's steps that ask the bus. Each function does nothing; its contract is the law.
 
 ghost use Rattle.word_owners.specs.Buffers.{BuffersApart, DataStayInBuffers, PointersStayInBuffers};
+ghost use Rattle.word_owners.specs.Answering.{AnsweringOpens, AnsweringStays};
 ghost use Rattle.word_owners.specs.DataMoves.{DataMovesHold};
+ghost use Rattle.word_owners.specs.Steps.{ChipStepsHold};
+ghost use Rattle.word_owners.specs.StopCauses.{StopsAreHandled};
 
 /// At each of the 36 data moves a step of the chip keeps the invariant, whatever the bus answers: the chip goes on behind
 /// the move, or it was broken off with bytes left, or the bus was free and is to be reset. Both data pointers of the block
@@ -22,4 +25,28 @@ pub fn pointers_stay_in_buffers()
 pub fn data_stay_in_buffers()
     ensures moves { DataStayInBuffers }
     ensures apart { BuffersApart }
+{}
+
+/// A step of the chip leaves it so that each unit's target answers selections exactly where the unit isn't absent.
+pub fn answering_stays()
+    ensures { AnsweringStays }
+{}
+
+/// A step of the chip at each point of the script and of the chains leads to a spot that may follow it, where the invariant
+/// holds, for every answer of the bus. Each unit's target is to answer selections exactly where the unit isn't absent: so
+/// the selection for a sense never times out.
+pub fn chip_steps_hold()
+    ensures { ChipStepsHold }
+{}
+
+/// At the opening of a rig each unit's target answers selections exactly where the unit isn't absent.
+pub fn answering_opens()
+    ensures { AnsweringOpens }
+{}
+
+/// Wherever the invariant holds, a chip in no stop stage isn't stopped, and each stop stage has the causes that it is for: a
+/// phase mismatch is to be repaired; tickets are to be swept after a repair, a selection that nobody answered, a reset or
+/// the end of a device reset.
+pub fn stops_are_handled()
+    ensures { StopsAreHandled }
 {}

@@ -1,6 +1,7 @@
 //! Laws of the invariant. Each function does nothing; its contract is the law.
 
-ghost use Rattle.word_owners.specs.Laws.{FixHolds, FreeHolds, HoldsOpened, JobHolds, JumpsHold, LinkHolds, LoadsHold, MarkHolds, QueueHolds, ResetHolds, RestartHolds, ReturnsHold, SenseHolds, SignalHolds, SweepHolds, TakeHolds, UnlinkHolds};
+ghost use Rattle.word_owners.specs.DriverSteps.{DriverHolds};
+ghost use Rattle.word_owners.specs.Laws.{FixHolds, FreeHolds, HoldsOpened, JobHolds, LinkHolds, MarkHolds, QueueHolds, ResetHolds, RestartHolds, SenseHolds, SignalHolds, SweepHolds, TakeHolds, UnlinkHolds};
 
 /// The invariant holds at the opening of a bench of at most 16 units: the chip stands at START, both rings are empty and
 /// there is no ticket.
@@ -72,20 +73,7 @@ pub fn senses_hold()
     ensures { SenseHolds }
 {}
 
-/// At twelve jumps of the script that always hold a step of the chip keeps the invariant: those back to DISPATCH and
-/// START, those of the tail, and those behind the data moves.
-pub fn jumps_hold()
-    ensures { JumpsHold }
-{}
-
-/// At ten LOADs of the script that have their word at an address of their own a step of the chip keeps the invariant:
-/// the register has the next start slot, the next done slot, the ticket's block or the constant that stands there.
-pub fn loads_hold()
-    ensures { LoadsHold }
-{}
-
-/// At eight RETURNs of the script a step of the chip keeps the invariant: those that enter the block at FRONT, an idle
-/// slot, and the gate of the ticket that has reselected.
-pub fn returns_hold()
-    ensures { ReturnsHold }
+/// Where the invariant holds at some spot, it holds at one after each step of the driver but Build that is enabled.
+pub fn driver_steps_hold()
+    ensures { DriverHolds }
 {}

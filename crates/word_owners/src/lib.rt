@@ -4,9 +4,11 @@
 mod chip_laws;
 mod laws;
 
-pub use chip_laws::{data_moves_hold, data_stay_in_buffers, pointers_stay_in_buffers};
+pub use chip_laws::{
+    answering_opens, answering_stays, chip_steps_hold, data_moves_hold, data_stay_in_buffers,
+    pointers_stay_in_buffers, stops_are_handled,
+};
 pub use laws::{
-    aborts_hold, device_resets_hold, fixes_hold, frees_hold, jumps_hold, links_hold, loads_hold,
-    opening_holds, queues_hold, resets_hold, restarts_hold, returns_hold, senses_hold, sweeps_hold,
-    takes_hold,
+    aborts_hold, device_resets_hold, driver_steps_hold, fixes_hold, frees_hold, links_hold,
+    opening_holds, queues_hold, resets_hold, restarts_hold, senses_hold, sweeps_hold, takes_hold,
 };

@@ -1,0 +1,5 @@
+use Rattle.word_owners.proofs.Answering.{answering_stays}
+use Rattle.word_owners.proofs.chip_laws.answering_stays.Goals as goal
+
+pub returns : goal.returns
+returns c = answering_stays
