@@ -44,3 +44,5 @@ pub mod ChainSteps
 pub mod AllSteps
 pub mod DriverSteps
 pub mod StopCauses
+pub mod Spaces
+pub mod FreedSpaces

@@ -12,3 +12,4 @@ pub mod Steps
 pub mod DriverSteps
 pub mod StopCauses
 pub mod Laws
+pub mod Spaces

@@ -3,6 +3,7 @@
 
 mod chip_laws;
 mod laws;
+mod space_laws;
 
 pub use chip_laws::{
     answering_opens, answering_stays, chip_steps_hold, data_moves_hold, data_stay_in_buffers,
@@ -12,3 +13,4 @@ pub use laws::{
     aborts_hold, device_resets_hold, driver_steps_hold, fixes_hold, frees_hold, links_hold,
     opening_holds, queues_hold, resets_hold, restarts_hold, senses_hold, sweeps_hold, takes_hold,
 };
+pub use space_laws::space_is_owned;

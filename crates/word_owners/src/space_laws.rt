@@ -1,0 +1,15 @@
+//! Laws of the buffer region. Each function does nothing; its contract is the law.
+
+ghost use Rattle.word_owners.specs.Spaces.{BuffersOwned, BuildOwns, FreeOwns, OpeningOwns, StaysOwned};
+
+/// Live tickets own parts of the buffer region: each piece of a buffer lies in a chunk that is out of the desk's space, and
+/// no two such chunks share an address. It holds at the opening; Build keeps it, with the pieces of its ticket in chunks
+/// that were free, and Free, which gives those of its ticket back; so does each step that leaves the space and the pieces,
+/// and brings no ticket to life. So the buffers of live tickets lie in the region, and two of them share no byte.
+pub fn space_is_owned()
+    ensures opening { OpeningOwns }
+    ensures build { BuildOwns }
+    ensures free { FreeOwns }
+    ensures others { StaysOwned }
+    ensures buffers { BuffersOwned }
+{}
