@@ -20,10 +20,7 @@ use Rattle.ticket_fate.proofs.TicketSteps.{fate_at, sense_at, needs}
 use Rattle.ticket_fate.proofs.DataBytes.{given, taken, pointed}
 use Rattle.ticket_fate.proofs.TaskLists.{lists-other}
 use Rattle.ticket_fate.proofs.SoundSessions.{sent-sound, took-sound, heard-sound, receiving-place}
-use Rattle.ticket_fate.proofs.Targets.{unit-changed, units-ticket-changed, work-is}
-
-not-away : (k : Ticket) → k.life ≡ Connected → k.life ≡ Away → ⊥
-not-away k e f = let g : Connected ≡ Away = sym e ∙ f in cc
+use Rattle.ticket_fate.proofs.Targets.{not-away, unit-changed, units-ticket-changed, work-is}
 
 -- a ticket changes that isn't away, and nothing of its unit
 pub unit-ticket-changed : (g : Plan) (tickets : ℕ → Ticket) (x : ℕ) (k : Ticket) (u : LogicalUnit) → ((tickets x).life ≡ Away → ⊥) → (k.life ≡ Away → ⊥) → TicketKept g x k u.log → UnitKept g (unit_of g x) tickets u

@@ -1,6 +1,7 @@
 -- No ticket has more entries in its unit's log than it may have, after every list of moves.
 use Rattle.std.proofs.Common.{◌≡◌, ◌≢◌, ℕ, zero, suc, ◌<◌, Bool, true, false, List, [], ◌∷◌, ◌++◌, refl, ap, arith, sym, ◌∙◌, subst, Option, Some, None, ◌⊎◌, inl, inr, cond, nat_lt, remove}
 use Rattle.std.specs.Prelude.{◌||◌, fold}
+use Rattle.std.proofs.lemmas.Option.{same_Some}
 use Rattle.scsi_words.specs.declared.phases.kinds.Direction.{Direction}
 use Rattle.scsi_words.specs.declared.phases.kinds.Direction.TheVariants.{In, Out, None as NoData}
 use Rattle.cdb_codec.specs.declared.commands.Cdb.{Cdb}
@@ -39,7 +40,7 @@ use Rattle.ticket_fate.specs.Laws.{Opens, limit_of, EntriesAreFew}
 use Rattle.ticket_fate.proofs.TicketSteps.{fate_at, sense_at}
 use Rattle.ticket_fate.proofs.TaskLists.{not-of, not-by_tag}
 use Rattle.ticket_fate.proofs.Targets.{at-lun, unit-same, unit-other, unit-of-work, runs}
-use Rattle.ticket_fate.proofs.LogTurns.{drop-other, drops-other}
+use Rattle.ticket_fate.proofs.LogTurns.{unit-logs, target-logs, drop-other, drops-other}
 use Rattle.ticket_fate.proofs.Recorded.{reset-there, idle-parted, begun-units}
 use Rattle.ticket_fate.proofs.Reached.{kept-by, opens-kept, all-kept}
 
@@ -269,43 +270,21 @@ within-at ts i t f h j = by (same_or_not j i)
     by (inl q) = subst (λ z. LinkWithin z.link z) (sym (ap (with_at ts i t) q ∙ with_at-same ts i t)) h
     by (inr d) = subst (λ z. LinkWithin z.link z) (sym (with_at-other ts i t j d)) (f j)
 
-target-few : (g : Plan) (l : ℕ) (ts : ℕ → Target) (i x : ℕ) (t : Target) → (target_of g x ≡ i → FewTurn l x (log_of g (ts i) x) (log_of g t x)) → FewTurn l x (log_of g (ts (target_of g x)) x) (log_of g (with_at ts i t (target_of g x)) x)
-target-few g l ts i x t f = by (same_or_not (target_of g x) i)
-  where
-    by : (target_of g x ≡ i) ⊎ (target_of g x ≢ i) → FewTurn l x (log_of g (ts (target_of g x)) x) (log_of g (with_at ts i t (target_of g x)) x)
-    by (inl q) =
-        subst (λ z. FewTurn l x (log_of g z x) (log_of g (with_at ts i t (target_of g x)) x)) (sym (ap ts q))
-        (subst (λ z. FewTurn l x (log_of g (ts i) x) (log_of g z x)) (sym (ap (with_at ts i t) q ∙ with_at-same ts i t)) (f q))
-    by (inr d) = subst (λ z. FewTurn l x (log_of g (ts (target_of g x)) x) (log_of g z x)) (sym (with_at-other ts i t (target_of g x) d)) (λ h. h)
-
-unit-few : (l x : ℕ) (units : List (Option LogicalUnit)) (at lun : ℕ) (u v : LogicalUnit) → unit_at units at ≡ Some u → (lun ≡ at → FewTurn l x u.log v.log)
-    → FewTurn l x (log_in (unit_at units lun)) (log_in (unit_at (with_unit units at v) lun))
-unit-few l x units at lun u v there f = by (same_or_not lun at)
-  where
-    by : (lun ≡ at) ⊎ (lun ≢ at) → FewTurn l x (log_in (unit_at units lun)) (log_in (unit_at (with_unit units at v) lun))
-    by (inl q) =
-        subst (λ z. FewTurn l x z (log_in (unit_at (with_unit units at v) lun))) (sym (ap (λ z. log_in (unit_at units z)) q ∙ ap log_in there))
-        (subst (FewTurn l x u.log) (sym (ap (λ z. log_in (unit_at (with_unit units at v) z)) q ∙ ap log_in (unit-same units at u v there))) (f q))
-    by (inr d) = subst (λ z. FewTurn l x (log_in (unit_at units lun)) (log_in z)) (sym (unit-other units at lun v d)) (λ h. h)
-
-some : (a b : LogicalUnit) → Some a ≡ Some b → a ≡ b
-some a b e = cc
-
 module _ (g : Plan) (count : ℕ) (plan : IsPlan g count) (ks : ℕ → Ticket) (ts : ℕ → Target) (h : AllKept g count ks ts) (x : ℕ) where
   abbrev Turns : (ℕ → Target) → Type 0
   Turns us = FewTurn (limit_of g x) x (log_of g (ts (target_of g x)) x) (log_of g (us (target_of g x)) x)
 
   -- the units stay
   still : (i : ℕ) (t : Target) → t.units ≡ (ts i).units → Turns (with_at ts i t)
-  still i t e = target-few g (limit_of g x) ts i x t (λ q. subst (λ z. FewTurn (limit_of g x) x (log_of g (ts i) x) (log_in (unit_at z (g.units (unit_of g x)).lun))) (sym e) (λ f. f))
+  still i t e = target-logs (FewTurn (limit_of g x) x) (λ l f. f) g ts i x t (λ q. subst (λ z. FewTurn (limit_of g x) x (log_of g (ts i) x) (log_in (unit_at z (g.units (unit_of g x)).lun))) (sym e) (λ f. f))
 
   -- one unit gets another log
   logs : (i : ℕ) (t : Target) (at : ℕ) (u v : LogicalUnit) → unit_at (ts i).units at ≡ Some u → t.units ≡ with_unit (ts i).units at v → (u.rig ≡ g.units (unit_of g x) → FewTurn (limit_of g x) x u.log v.log) → Turns (with_at ts i t)
-  logs i t at u v there e f = target-few g (limit_of g x) ts i x t (λ q.
+  logs i t at u v there e f = target-logs (FewTurn (limit_of g x) x) (λ l f. f) g ts i x t (λ q.
       subst (λ z. FewTurn (limit_of g x) x (log_of g (ts i) x) (log_in (unit_at z (g.units (unit_of g x)).lun))) (sym e)
-      (unit-few (limit_of g x) x (ts i).units at (g.units (unit_of g x)).lun u v there (λ p.
+      (unit-logs (FewTurn (limit_of g x) x) (λ l f. f) (ts i).units at (g.units (unit_of g x)).lun u v there (λ p.
       let old = (h.each i).units (unit_of g x) (plan.known x) q in
-      f (ap (λ z. z.rig) (some u old.0 (sym there ∙ ap (unit_at (ts i).units) (sym p) ∙ old.1)) ∙ old.2.rig))))
+      f (ap (λ z. z.rig) (same_Some u old.0 (sym there ∙ ap (unit_at (ts i).units) (sym p) ∙ old.1)) ∙ old.2.rig))))
 
   -- the unit of a connected sense task
   sense-none : (i : ℕ) (c : Connection) (u : LogicalUnit) → (ts i).link ≡ TaskConnected c → c.task.senses ≡ true → unit_at (ts i).units c.lun ≡ Some u → (tally c.task.ticket u.log).senses ≡ 0
@@ -328,7 +307,7 @@ module _ (g : Plan) (count : ℕ) (plan : IsPlan g count) (ks : ℕ → Ticket) 
   -- target i is reset
   reset-turns : (i : ℕ) → ((u : LogicalUnit) → unit_at (ts i).units (g.units (unit_of g x)).lun ≡ Some u → UnitKept g (unit_of g x) ks u → (v : LogicalUnit)
       × (unit_at (target_reset (ts i)).units (g.units (unit_of g x)).lun ≡ Some (unit_reset v)) × (v.log ≡ u.log) × MayDrop x (tally x u.log) v.tasks) → Turns (with_at ts i (target_reset (ts i)))
-  reset-turns i f = target-few g (limit_of g x) ts i x (target_reset (ts i)) (λ q.
+  reset-turns i f = target-logs (FewTurn (limit_of g x) x) (λ l f. f) g ts i x (target_reset (ts i)) (λ q.
       let old = (h.each i).units (unit_of g x) (plan.known x) q in
       let n = f old.0 old.1 old.2 in
       subst (λ z. FewTurn (limit_of g x) x (log_in z) (log_of g (target_reset (ts i)) x)) (sym old.1)
@@ -354,7 +333,7 @@ module _ (g : Plan) (count : ℕ) (plan : IsPlan g count) (ks : ℕ → Ticket) 
       by : (u : LogicalUnit) → unit_at (ts i).units (g.units (unit_of g x)).lun ≡ Some u → UnitKept g (unit_of g x) ks u → ((g.units (unit_of g x)).lun ≡ c.lun) ⊎ ((g.units (unit_of g x)).lun ≢ c.lun)
           → (v : LogicalUnit) × (unit_at (target_reset (ts i)).units (g.units (unit_of g x)).lun ≡ Some (unit_reset v)) × (v.log ≡ u.log) × MayDrop x (tally x u.log) v.tasks
       by u there kept (inl q) =
-          let same : u ≡ w = some u w (sym there ∙ ap (unit_at (ts i).units) q ∙ own) in
+          let same : u ≡ w = same_Some u w (sym there ∙ ap (unit_at (ts i).units) q ∙ own) in
           let unit : UnitKept g (unit_of g x) ks w = subst (UnitKept g (unit_of g x) ks) same kept in
           let may : MayDrop x (tally x w.log) (by_tag (away c.task) w.tasks) = may-by_tag x (tally x w.log) (away c.task) w.tasks
           (λ s e. let r = runs g count plan i ks (ts i) (h.each i) c working s w own in (ap (λ y. (tally y w.log).ends) (sym e) ∙ r.ends, ap (λ y. (tally y w.log).drops) (sym e) ∙ r.drops))

@@ -171,7 +171,7 @@ module _ (g : Plan) (t named tries : ℕ) (buffer : List ℕ) (x : Session) (a :
       subst (λ y. Closed r (ended x.task.kept x (now x.task.received)).unit at y t buffer st)
       (sym (run-push g.requests (opening g (unit_of g t)) x.log (End t) ∙ ap (ran_ended g.requests old t) q.answer)) c
 
-ended-log : (o : Option Answered) (s : Session) (p : Performed) → (ended o s p).log ≡ s.log ++ End s.task.ticket ∷ []
+pub ended-log : (o : Option Answered) (s : Session) (p : Performed) → (ended o s p).log ≡ s.log ++ End s.task.ticket ∷ []
 ended-log (Some k) s p = refl
 ended-log None s p = refl
 

@@ -14,13 +14,14 @@ use Rattle.target_law.specs.declared.moves.Move.{Move}
 use Rattle.target_law.specs.declared.moves.Move.TheVariants as move
 use Rattle.target_law.specs.declared.task_phase.Completion.{Completion}
 use Rattle.target_law.specs.declared.task_phase.Completion.TheVariants.{Answered as HasAnswered, Refused}
-use Rattle.target_law.specs.Session.{Task, Session, remaining, acted, gone, phased, looked, looked_by, closed, closed_by, ended}
+use Rattle.target_law.specs.Session.{Task, Session, remaining, acted, gone, phased, looked, looked_by, closed, closed_by}
 use Rattle.target_law.specs.Target.{LogicalUnit, Target, unit_at, with_unit, drops, drops_by, unit_reset}
 use Rattle.logs_have_room.specs.Room.{entries}
 use Rattle.ticket_fate.specs.Tickets.{Plan, is_live, Ticket}
 use Rattle.ticket_fate.specs.Linked.{HasNoTaskOf, log_in, log_of}
 use Rattle.ticket_fate.specs.Moves.{target_of}
 use Rattle.ticket_fate.proofs.Targets.{unit-same, unit-other}
+use Rattle.ticket_fate.proofs.LastEntries.{ended-log}
 use Rattle.ticket_fate.proofs.Resets.{clears-same}
 
 -- the log stays, or has one entry more of a live ticket
@@ -92,10 +93,6 @@ acted-log move.Save s = inl refl
 acted-log move.Restore s = inl refl
 acted-log (move.Rogue word) s = inl refl
 
-ended-log : (o : Option Answered) (s : Session) (p : Performed) → (ended o s p).log ≡ s.log ++ End s.task.ticket ∷ []
-ended-log (Some a) s p = refl
-ended-log None s p = refl
-
 pub acted-turned : (ks : ℕ → Ticket) (m : Move) (s : Session) → is_live (ks s.task.ticket).life ≡ true → Turned ks s.log (acted m s).log
 acted-turned ks m s live = by (acted-log m s)
   where
@@ -116,27 +113,28 @@ pub drops-turned : (b : Bool) (ks : ℕ → Ticket) (u : LogicalUnit) (k : Task)
 drops-turned true ks u k live = inl refl
 drops-turned false ks u k live = inr (k.ticket, Drop k.ticket k.high, refl, live, refl)
 
--- a unit of a target in place of another one
-pub unit-turned : (ks : ℕ → Ticket) (units : List (Option LogicalUnit)) (at lun : ℕ) (u v : LogicalUnit) → unit_at units at ≡ Some u → Turned ks u.log v.log
-    → Turned ks (log_in (unit_at units lun)) (log_in (unit_at (with_unit units at v) lun))
-unit-turned ks units at lun u v there t = by (same_or_not lun at)
-  where
-    by : (lun ≡ at) ⊎ (lun ≢ at) → Turned ks (log_in (unit_at units lun)) (log_in (unit_at (with_unit units at v) lun))
-    by (inl q) =
-        subst (λ l. Turned ks l (log_in (unit_at (with_unit units at v) lun))) (sym (ap (λ z. log_in (unit_at units z)) q ∙ ap log_in there))
-        (subst (Turned ks u.log) (sym (ap (λ z. log_in (unit_at (with_unit units at v) z)) q ∙ ap log_in (unit-same units at u v there))) t)
-    by (inr d) = inl (ap log_in (unit-other units at lun v d))
+-- for a relation that each log has to itself
+module _ (R : List LogEntry → List LogEntry → Type 0) (same : (l : List LogEntry) → R l l) where
+  -- a unit of a target in place of another one
+  pub unit-logs : (units : List (Option LogicalUnit)) (at lun : ℕ) (u v : LogicalUnit) → unit_at units at ≡ Some u → (lun ≡ at → R u.log v.log)
+      → R (log_in (unit_at units lun)) (log_in (unit_at (with_unit units at v) lun))
+  unit-logs units at lun u v there t = by (same_or_not lun at)
+    where
+      by : (lun ≡ at) ⊎ (lun ≢ at) → R (log_in (unit_at units lun)) (log_in (unit_at (with_unit units at v) lun))
+      by (inl q) =
+          subst (λ l. R l (log_in (unit_at (with_unit units at v) lun))) (sym (ap (λ z. log_in (unit_at units z)) q ∙ ap log_in there))
+          (subst (R u.log) (sym (ap (λ z. log_in (unit_at (with_unit units at v) z)) q ∙ ap log_in (unit-same units at u v there))) (t q))
+      by (inr d) = subst (λ z. R (log_in (unit_at units lun)) (log_in z)) (sym (unit-other units at lun v d)) (same (log_in (unit_at units lun)))
 
--- a target in place of another one
-pub target-turned : (g : Plan) (ks : ℕ → Ticket) (ts : ℕ → Target) (i x : ℕ) (t : Target) → (target_of g x ≡ i → Turned ks (log_of g (ts i) x) (log_of g t x))
-    → Turned ks (log_of g (ts (target_of g x)) x) (log_of g (with_at ts i t (target_of g x)) x)
-target-turned g ks ts i x t f = by (same_or_not (target_of g x) i)
-  where
-    by : (target_of g x ≡ i) ⊎ (target_of g x ≢ i) → Turned ks (log_of g (ts (target_of g x)) x) (log_of g (with_at ts i t (target_of g x)) x)
-    by (inl q) =
-        subst (λ z. Turned ks (log_of g z x) (log_of g (with_at ts i t (target_of g x)) x)) (sym (ap ts q))
-        (subst (λ z. Turned ks (log_of g (ts i) x) (log_of g z x)) (sym (ap (with_at ts i t) q ∙ with_at-same ts i t)) (f q))
-    by (inr d) = inl (ap (λ z. log_of g z x) (with_at-other ts i t (target_of g x) d))
+  -- a target in place of another one
+  pub target-logs : (g : Plan) (ts : ℕ → Target) (i x : ℕ) (t : Target) → (target_of g x ≡ i → R (log_of g (ts i) x) (log_of g t x)) → R (log_of g (ts (target_of g x)) x) (log_of g (with_at ts i t (target_of g x)) x)
+  target-logs g ts i x t f = by (same_or_not (target_of g x) i)
+    where
+      by : (target_of g x ≡ i) ⊎ (target_of g x ≢ i) → R (log_of g (ts (target_of g x)) x) (log_of g (with_at ts i t (target_of g x)) x)
+      by (inl q) =
+          subst (λ z. R (log_of g z x) (log_of g (with_at ts i t (target_of g x)) x)) (sym (ap ts q))
+          (subst (λ z. R (log_of g (ts i) x) (log_of g z x)) (sym (ap (with_at ts i t) q ∙ with_at-same ts i t)) (f q))
+      by (inr d) = subst (λ z. R (log_of g (ts (target_of g x)) x) (log_of g z x)) (sym (with_at-other ts i t (target_of g x) d)) (same (log_of g (ts (target_of g x)) x))
 
 -- a reset of a unit: no ticket without a task in it has an entry more
 pub record Reset (b : Bool) (before after : Tally) : Type 0 where

@@ -1,5 +1,6 @@
 -- Every move keeps what holds of the tickets and the targets.
 use Rattle.std.proofs.Common.{◌≡◌, ◌≢◌, ℕ, ◌+◌, ◌-◌, ◌<◌, Bool, true, false, List, refl, ap, arith, sym, ◌∙◌, subst, Some, ◌⊎◌, inl, inr, nat_eq}
+use Rattle.std.proofs.lemmas.Option.{same_Some}
 use Rattle.rig_types.specs.declared.report.Outcome.{Outcome}
 use Rattle.rig_types.specs.declared.report.Outcome.TheVariants.{Done, Cut, Reset, NoTarget, Broken}
 use Rattle.rig_types.specs.declared.report.Report.{Report}
@@ -256,12 +257,9 @@ module _ (g : Plan) (count : ℕ) (plan : IsPlan g count) (ks : ℕ → Ticket) 
       let n = taskless g x (ks x) u.log k m in
       let a = without (ks x).life n.0 in
       let b = without k.life n.1 in
-      ticket-changed x k (λ v e kept. let same : u ≡ v = some u v (sym there ∙ e) in
+      ticket-changed x k (λ v e kept. let same : u ≡ v = same_Some u v (sym there ∙ e) in
       unit-ticket-changed g ks x k v a.1 b.1 (subst (λ w. TicketKept g x k w.log) same (stands-on g x (ks x) u.log k m (subst (λ w. TicketKept g x (ks x) w.log) (sym same) (kept.each x refl)))) kept)
       (λ e. absurd (a.0 e)) (λ e. absurd (a.2 e)) (λ e. absurd (b.0 e))
-    where
-      some : (a b : LogicalUnit) → Some a ≡ Some b → a ≡ b
-      some a b e = cc
 
   points-keep : (x lastp savep : ℕ) → (ks x).life ≡ Connected → AllKept g count (with_at ks x (pointed_ticket (ks x) lastp savep)) ts
   points-keep x lastp savep e = ticket-changed x (pointed_ticket (ks x) lastp savep)
@@ -397,7 +395,7 @@ keeps g count plan ks ts ns us (drops_task i c u w free there e) h =
     calls g count plan ks ts h i c _ _ w (work-of g count plan ks ts h i c w free).target (drops-kept g count plan i ks (ts i) (h.each i) c w free u there e) (λ z. absurd (let q : Finished Cut ≡ Connected = z in cc))
 keeps g count plan ks ts ns us (reselects n m u k less idle there e) h =
     let old = (h.each (g.units n).target).units n less refl in
-    let same : old.0 ≡ u = same_unit old.0 u (sym old.1 ∙ there) in
+    let same : old.0 ≡ u = same_Some old.0 u (sym old.1 ∙ there) in
     let unit : UnitKept g n ks u = subst (UnitKept g n ks) same old.2 in
     let a = away-at g n ks m u.tasks k unit.lists.tasks e in
     let f : target_of g k.ticket ≡ (g.units n).target = ap (λ z. (g.units z).target) a.unit in
@@ -407,9 +405,6 @@ keeps g count plan ks ts ns us (reselects n m u k less idle there e) h =
     subst (λ z. AllKept g count (with_at ks k.ticket new) (with_at ts z t)) f
     (changed g count plan ks ts h k.ticket new t (subst (λ z. TargetKept g count z (with_at ks k.ticket new) t) (sym f) (reselect-kept g count plan i ks (ts i) (h.each i) n less refl m u k there unit e)) (λ z. refl)
     (λ y d q l. absurd (nobody g count plan ks ts h i idle y (q ∙ f) l)))
-  where
-    same_unit : (a b : LogicalUnit) → Some a ≡ Some b → a ≡ b
-    same_unit a b q = cc
 keeps g count plan ks ts ns us (begins x n u idle there lun tag life others) h =
     let i = target_of g x in
     let t = begun (ts i) n (command (g.requests x)) u x in

@@ -1,12 +1,13 @@
 -- What holds after every list of moves from the opening.
-use Rattle.std.proofs.Common.{◌≡◌, ℕ, Bool, List, [], refl, subst, arith, sym, ◌∙◌, ap, Some, ◌⊎◌, inl, inr}
+use Rattle.std.proofs.Common.{◌≡◌, ℕ, Bool, List, [], refl, subst, arith, sym, ◌∙◌, ap, ◌⊎◌, inl, inr}
+use Rattle.std.proofs.lemmas.Option.{same_Some}
 use Rattle.rig_types.specs.declared.report.Outcome.{Outcome}
 use Rattle.rig_types.specs.declared.report.Outcome.TheVariants.{Done, Cut, Reset, NoTarget, Broken}
 use Rattle.rig_types.specs.declared.report.Report.{Report}
 use Rattle.unit_law.specs.Log.{View}
 use Rattle.unit_law.specs.Request.{RequestData}
 use Rattle.unit_law.specs.Report.{UnitSetting, TicketHistory, By, Fits, SenseFits}
-use Rattle.target_law.specs.Target.{LogicalUnit, Target}
+use Rattle.target_law.specs.Target.{Target}
 use Rattle.ticket_fate.specs.Tickets.{Plan, unit_of, setting, Freed, Ticket, report_of, freed_report, course_at, view_for}
 use Rattle.ticket_fate.specs.Senses.{SenseOfReportFits}
 use Rattle.ticket_fate.specs.Fates.{FreedReportFits}
@@ -135,13 +136,10 @@ lost-without-end NoTarget s r v h q b (inl e) = cc
 lost-without-end NoTarget s r v h q b (inr e) = cc
 lost-without-end Broken s r v h q b e = absurd b
 
-same-unit : (a b : LogicalUnit) → Some a ≡ Some b → a ≡ b
-same-unit a b e = cc
-
 pub none-lost-after-end : NoneLostAfterEnd
 none-lost-after-end g count ns us r x o e keeps_rules u there some lost =
     let f = reports-fit g count ns us r x o e in
-    let same : f.0 ≡ u = same-unit f.0 u (sym f.1 ∙ there) in
+    let same : f.0 ≡ u = same_Some f.0 u (sym f.1 ∙ there) in
     let none = lost-without-end o _ _ _ _ _ (f.2.fits keeps_rules).by lost in
     let ends : (view_for g x u.log).tally.ends ≡ 0 = sym (ap (λ w. (view_for g x w.log).tally.ends) same) ∙ none in
     absurd (omega arith)

@@ -8,6 +8,7 @@ use Rattle.unit_law.specs.Report.{TicketHistory}
 use Rattle.unit_law.proofs.Views.{with_at-same, with_at-other, same_or_not, eq-test, ne-test}
 use Rattle.target_law.specs.declared.nexus.Nexus.{Nexus}
 use Rattle.std.proofs.lemmas.Bool.Decides.{nat_tests}
+use Rattle.std.proofs.lemmas.Option.{same_Some}
 use Rattle.cdb_codec.specs.declared.commands.Cdb.TheVariants.{RequestSense}
 use Rattle.rig_types.specs.declared.report.Outcome.TheVariants.{Done}
 use Rattle.unit_law.specs.Request.{command}
@@ -17,7 +18,7 @@ use Rattle.target_law.specs.declared.task_phase.Completion.TheVariants.{Answered
 use Rattle.target_law.specs.Session.{Session, acted, closed, began}
 use Rattle.target_law.specs.Bytes.{Connection, away}
 use Rattle.target_law.specs.Target as connection_state
-use Rattle.target_law.specs.Target.{LogicalUnit, ConnectionState, BusFree, TakingCommand, TaskConnected, RogueConnected, Target, unit_at, with_unit, session, linked, parted, leaves, drops, unit_left, unit_reset, slot_reset, target_reset, goes_on, unit_after}
+use Rattle.target_law.specs.Target.{LogicalUnit, ConnectionState, BusFree, TakingCommand, TaskConnected, RogueConnected, Target, unit_at, with_unit, session, linked, parted, leaves, drops, unit_left, unit_reset, slot_reset, target_reset, unit_after}
 use Rattle.target_law.specs.declared.task_phase.TaskPhase.TheVariants.{ToChoose}
 use Rattle.target_law.specs.Calls.{target_acted, acted_by, begun, has_tag, has_ended}
 use Rattle.logs_have_room.specs.Room.{entries}
@@ -30,7 +31,7 @@ use Rattle.ticket_fate.proofs.Targets.{at-lun, unit-same, unit-other}
 use Rattle.ticket_fate.proofs.TaskLists.{not-of, not-by_tag, away-at}
 use Rattle.ticket_fate.proofs.Resets.{slot-there}
 use Rattle.ticket_fate.proofs.Turns.{CourseTurned, TicketTurned, or-none, stays, alone-turned, reset-turned, at-ticket, sent-turned, asked-turned}
-use Rattle.ticket_fate.proofs.LogTurns.{Turned, turned-tally, acted-turned, closed-turned, drops-turned, unit-turned, target-turned, unit-reset}
+use Rattle.ticket_fate.proofs.LogTurns.{Turned, turned-tally, acted-turned, closed-turned, drops-turned, unit-logs, target-logs, unit-reset}
 
 -- the Clears of a history, by the course of its ticket
 abbrev pub Counted : Course → (since clears now n : ℕ) → Type 0
@@ -104,13 +105,13 @@ module _ (g : Plan) (count : ℕ) (plan : IsPlan g count) (ks : ℕ → Ticket) 
 
   -- the units stay
   still : (i : ℕ) (t : Target) (caused : Bool) → t.units ≡ (ts i).units → TallyStep (is_live (ks x).life) caused (tally_in g ts x) (tally_in g (with_at ts i t) x)
-  still i t caused e = calm (with_at ts i t) caused (target-turned g ks ts i x t (λ q. inl (ap (λ u. log_in (unit_at u (g.units (unit_of g x)).lun)) e)))
+  still i t caused e = calm (with_at ts i t) caused (target-logs (Turned ks) (λ l. inl refl) g ts i x t (λ q. inl (ap (λ u. log_in (unit_at u (g.units (unit_of g x)).lun)) e)))
 
   -- one unit gets another log
   logs : (i : ℕ) (t : Target) (at : ℕ) (u v : LogicalUnit) (caused : Bool) → unit_at (ts i).units at ≡ Some u → t.units ≡ with_unit (ts i).units at v → Turned ks u.log v.log
       → TallyStep (is_live (ks x).life) caused (tally_in g ts x) (tally_in g (with_at ts i t) x)
-  logs i t at u v caused there e l = calm (with_at ts i t) caused (target-turned g ks ts i x t (λ q.
-      subst (λ z. Turned ks (log_of g (ts i) x) (log_in (unit_at z (g.units (unit_of g x)).lun))) (sym e) (unit-turned ks (ts i).units at (g.units (unit_of g x)).lun u v there l)))
+  logs i t at u v caused there e l = calm (with_at ts i t) caused (target-logs (Turned ks) (λ l. inl refl) g ts i x t (λ q.
+      subst (λ z. Turned ks (log_of g (ts i) x) (log_in (unit_at z (g.units (unit_of g x)).lun))) (sym e) (unit-logs (Turned ks) (λ l. inl refl) (ts i).units at (g.units (unit_of g x)).lun u v there (λ q. l))))
 
   -- the ticket of a connected task is live
   pub at-work : (i : ℕ) (c : Connection) → (ts i).link ≡ TaskConnected c → is_live (ks c.task.ticket).life ≡ true
@@ -164,13 +165,10 @@ module _ (g : Plan) (count : ℕ) (plan : IsPlan g count) (ks : ℕ → Ticket) 
       p : parted (ts i).link (ts i) ≡ leaves (ts i) c w
       p = ap (λ l. parted l (ts i)) working ∙ at-lun (ts i) c.lun (leaves (ts i) c) w own
 
-      some : (a b : LogicalUnit) → Some a ≡ Some b → a ≡ b
-      some a b e = cc
-
       by : (u : LogicalUnit) → unit_at (ts i).units (g.units (unit_of g x)).lun ≡ Some u → UnitKept g (unit_of g x) ks u → ((g.units (unit_of g x)).lun ≡ c.lun) ⊎ ((g.units (unit_of g x)).lun ≢ c.lun)
           → (v : LogicalUnit) × (unit_at (target_reset (ts i)).units (g.units (unit_of g x)).lun ≡ Some (unit_reset v)) × (v.log ≡ u.log) × (is_live (ks x).life ≡ false → HasNoTaskOf x v.tasks)
       by u there kept (inl q) =
-          let same : u ≡ w = some u w (sym there ∙ ap (unit_at (ts i).units) q ∙ own) in (
+          let same : u ≡ w = same_Some u w (sym there ∙ ap (unit_at (ts i).units) q ∙ own) in (
             unit_left w c.task,
             reset-there (ts i) (leaves (ts i) c w) (g.units (unit_of g x)).lun (unit_left w c.task) p (ap (unit_at (with_unit (ts i).units c.lun (unit_left w c.task))) q ∙ unit-same (ts i).units c.lun w (unit_left w c.task) own),
             ap (λ z. z.log) (sym same),
@@ -277,11 +275,8 @@ module _ (g : Plan) (count : ℕ) (plan : IsPlan g count) (ks : ℕ → Ticket) 
   turned ns us (drops_task i c u w free there e) = kept-course c.task.ticket _ Connected (work i c w free) refl refl refl refl refl
   turned ns us (reselects n m u k less idle there e) =
       let old = (h.each (g.units n).target).units n less refl in
-      let unit : UnitKept g n ks u = subst (UnitKept g n ks) (some old.0 u (sym old.1 ∙ there)) old.2 in
+      let unit : UnitKept g n ks u = subst (UnitKept g n ks) (same_Some old.0 u (sym old.1 ∙ there)) old.2 in
       kept-course k.ticket _ Away (away-at g n ks m u.tasks k unit.lists.tasks e).life refl refl refl refl refl
-    where
-      some : (a b : LogicalUnit) → Some a ≡ Some b → a ≡ b
-      some a b e = cc
   turned ns us (begins y n u idle there lun tag life others) = kept-course y _ Selected life refl refl refl refl refl
   turned ns us (ask_sends i c at b w free e byte) = own c.task.ticket _ (asked-turned c.shows at b (ks c.task.ticket) _ was)
   turned ns us (ask_completes i c u v s w free there e) = kept-course c.task.ticket _ AskConnected (asking i c w free) refl refl refl refl refl

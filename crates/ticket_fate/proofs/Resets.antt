@@ -2,6 +2,7 @@
 use Rattle.std.proofs.Common.{◌≡◌, ◌≢◌, ℕ, ◌+◌, ◌-◌, ◌≤◌, nat_lt, Bool, true, false, List, [], ◌∷◌, ◌++◌, map, take, refl, ap, arith, sym, ◌∙◌, subst, Option, Some, None, ◌⊎◌, inl, inr, nat_eq, option_map}
 use Rattle.std.specs.Prelude.{slice_get, fold, ◌&&◌, ◌||◌}
 use Rattle.std.proofs.lemmas.Option.{slice_get-map}
+use Rattle.std.proofs.lemmas.Option.{same_Some}
 use Rattle.scsi_words.specs.declared.phases.kinds.Direction.TheVariants.{Out}
 use Rattle.cdb_codec.specs.Forms.{need_of}
 use Rattle.rig_types.specs.declared.report.Outcome.{Outcome}
@@ -469,10 +470,7 @@ unfolding unit_at
 slot-there us lun u e = ap flat (slice_get-map slot_reset us lun) ∙ by (slice_get us lun) e
   where
     by : (o : Option (Option LogicalUnit)) → flat o ≡ Some u → flat (option_map slot_reset o) ≡ Some (unit_reset u)
-    by (Some (Some v)) e = let f : v ≡ u = same v u e in ap (λ z. Some (unit_reset z)) f
-      where
-        same : (a b : LogicalUnit) → Some a ≡ Some b → a ≡ b
-        same a b e = cc
+    by (Some (Some v)) e = let f : v ≡ u = same_Some v u e in ap (λ z. Some (unit_reset z)) f
     by (Some None) e = cc
     by None e = cc
 
@@ -507,12 +505,9 @@ left-logs : (t : Target) (at : ℕ) (u : LogicalUnit) (k : Task) → unit_at t.u
     → (w : LogicalUnit) × (unit_at t.units lun ≡ Some w) × (w.log ≡ v.log)
 left-logs t at u k there lun v e = by (same_or_not lun at)
   where
-    some : (a b : LogicalUnit) → Some a ≡ Some b → a ≡ b
-    some a b e = cc
-
     by : (lun ≡ at) ⊎ (lun ≢ at) → (w : LogicalUnit) × (unit_at t.units lun ≡ Some w) × (w.log ≡ v.log)
     by (inl q) =
-        let f : unit_left u k ≡ v = some (unit_left u k) v (sym (ap (unit_at (with_unit t.units at (unit_left u k))) q ∙ unit-same t.units at u (unit_left u k) there) ∙ e) in
+        let f : unit_left u k ≡ v = same_Some (unit_left u k) v (sym (ap (unit_at (with_unit t.units at (unit_left u k))) q ∙ unit-same t.units at u (unit_left u k) there) ∙ e) in
         (u, ap (unit_at t.units) q ∙ there, ap (λ z. z.log) f)
     by (inr d) = (v, sym (unit-other t.units at lun (unit_left u k) d) ∙ e, refl)
 

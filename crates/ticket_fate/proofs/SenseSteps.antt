@@ -1,11 +1,11 @@
 -- The steps of one ticket by itself that ask for the sense, or are of a unit that breaks the rules.
-use Rattle.std.proofs.Common.{◌≡◌, ℕ, Bool, true, false, List, [], length, refl, ap, arith, sym, ◌∙◌, subst, Some, ◌⊎◌, inl, inr}
+use Rattle.std.proofs.Common.{◌≡◌, ℕ, Bool, true, false, List, [], length, refl, ap, arith, sym, ◌∙◌, subst, ◌⊎◌, inl, inr}
+use Rattle.std.proofs.lemmas.Option.{same_Some}
 use Rattle.scsi_words.specs.declared.statuses.kinds.Status.{Status}
 use Rattle.scsi_words.specs.declared.statuses.kinds.Status.TheVariants.{Good, Check, Busy, Conflict, QueueFull}
 use Rattle.scsi_words.specs.Statuses.{status_code}
 use Rattle.rig_types.specs.declared.report.Outcome.{Outcome}
 use Rattle.rig_types.specs.declared.report.Outcome.TheVariants.{Done, Cut, Reset, NoTarget, Broken}
-use Rattle.plain_lun.specs.Performing.{Answered}
 use Rattle.unit_law.specs.declared.entry.LogEntry.{LogEntry}
 use Rattle.unit_law.specs.Log.{View}
 use Rattle.unit_law.specs.Report.{EndedInCheck, AsksSense, ByEnd, ByRefusal}
@@ -23,9 +23,6 @@ check-only Busy e = absurd (omega arith)
 check-only Conflict e = absurd (omega arith)
 check-only QueueFull e = absurd (omega arith)
 
-same-answer : (a b : Answered) → Some a ≡ Some b → a ≡ b
-same-answer a b e = cc
-
 -- an answer with CHECK CONDITION is that of the block's status byte
 asks-then : (g : Plan) (t : ℕ) (k : Ticket) (v : View) → (g.units (unit_of g t)).rogue ≡ false → ReportFits g t k v Done → AsksSense (setting g (unit_of g t)) v (course_at k.marked 0 k.bus_reset 0) → IsToAsk g t k
 asks-then g t k v rogue f z = by (f rogue).by
@@ -33,7 +30,7 @@ asks-then g t k v rogue f z = by (f rogue).by
     by : ByEnd (g.requests t) v (report_of t (g.requests t) k.status k.lastp k.tries k.buffer [] Done) ⊎ ByRefusal g.retries (g.requests t) v (report_of t (g.requests t) k.status k.lastp k.tries k.buffer [] Done) → IsToAsk g t k
     by (inl b) =
         let c = z.checked.1 in
-        let same = same-answer b.given.0 c.0 (sym b.given.1 ∙ c.1) in
+        let same = same_Some b.given.0 c.0 (sym b.given.1 ∙ c.1) in
         record { keeps = rogue; checked = b.given.2 ∙ ap (λ a. status_code a.status) same ∙ ap status_code c.2; autosense = z.autosense; unmarked = z.unmarked }
     by (inr b) = absurd (let n = z.checked.0 in omega (arith, n, b.no_end))
 

@@ -1,6 +1,7 @@
 -- A connected sense task: its choices, its bytes, its end, its begin, and a reset of the bus.
 use Rattle.std.proofs.Common.{◌≡◌, ◌≢◌, ℕ, zero, suc, ◌≤◌, ◌<◌, Bool, true, false, List, [], map, refl, ap, arith, sym, ◌∙◌, subst, Some, ◌⊎◌, inl, inr, nat_lt}
 use Rattle.std.specs.Prelude.{◌||◌}
+use Rattle.std.proofs.lemmas.Option.{same_Some}
 use Rattle.scsi_words.specs.declared.statuses.kinds.Status.{Status}
 use Rattle.cdb_codec.specs.declared.commands.Cdb.TheVariants.{RequestSense}
 use Rattle.cdb_codec.specs.Forms.{need_of}
@@ -38,9 +39,6 @@ use Rattle.ticket_fate.proofs.Targets.{unit-changed, units-changed, units-ticket
 use Rattle.ticket_fate.proofs.Calls.{unit-ticket-changed}
 use Rattle.ticket_fate.proofs.TaskEnds.{tag-or, no-tag, cond-false}
 use Rattle.ticket_fate.proofs.Resets.{slot-there, reset-here, unit-resets}
-
-some : (a b : LogicalUnit) → Some a ≡ Some b → a ≡ b
-some a b e = cc
 
 -- the ticket of a sense task isn't away
 asking-not-away : (k : Ticket) → k.life ≡ AskConnected → k.life ≡ Away → ⊥
@@ -145,9 +143,9 @@ module _ (g : Plan) (count : ℕ) (plan : IsPlan g count) (i : ℕ) (tickets : �
             waits = λ a. absurd (asking-not-away (tickets x) w.life a);
           }) unit) (TaskConnected d);
           link = subst (λ b. WorkKept b g i (with_at tickets x k) (goes_on t c u y) d) (sym q.runs.senses) (ask-is g i tickets x k (goes_on t c u y) d w.start q.ticket (w.tag ∙ sym q.tag) w.target w.lun w.life
-              (λ v e. subst (λ z. IsSound (session z d)) (some (unit_after u y) v (sym (unit-same t.units c.lun u (unit_after u y) there) ∙ e)) sound)
+              (λ v e. subst (λ z. IsSound (session z d)) (same_Some (unit_after u y) v (sym (unit-same t.units c.lun u (unit_after u y) there) ∙ e)) sound)
               q.shows
-              (λ v e. subst (λ z. AsksTask z.plain y.task (tickets x).area w.start) (some (unit_after u y) v (sym (unit-same t.units c.lun u (unit_after u y) there) ∙ e)) q.runs));
+              (λ v e. subst (λ z. AsksTask z.plain y.task (tickets x).area w.start) (same_Some (unit_after u y) v (sym (unit-same t.units c.lun u (unit_after u y) there) ∙ e)) q.runs));
         }
 
     -- a choice
@@ -194,7 +192,7 @@ module _ (g : Plan) (count : ℕ) (plan : IsPlan g count) (i : ℕ) (tickets : �
     reset-at : (n : ℕ) → n < count → (g.units n).target ≡ i → ((g.units n).lun ≡ c.lun) ⊎ ((g.units n).lun ≢ c.lun) → (old : LogicalUnit) → unit_at t.units (g.units n).lun ≡ Some old
         → unit_at (map slot_reset (with_unit t.units c.lun (unit_left u c.task))) (g.units n).lun ≡ Some (unit_reset old)
     reset-at n less target (inl q) old e =
-        let same : u ≡ old = some u old (sym there ∙ ap (unit_at t.units) (sym q) ∙ e) in
+        let same : u ≡ old = same_Some u old (sym there ∙ ap (unit_at t.units) (sym q) ∙ e) in
         ap (unit_at (map slot_reset (with_unit t.units c.lun (unit_left u c.task)))) q
         ∙ slot-there (with_unit t.units c.lun (unit_left u c.task)) c.lun (unit_left u c.task) (unit-same t.units c.lun u (unit_left u c.task) there)
         ∙ ap Some (reset-with-sense u c.task free ∙ ap unit_reset same)
@@ -250,7 +248,7 @@ module _ (g : Plan) (count : ℕ) (plan : IsPlan g count) (i : ℕ) (tickets : �
               before = r.before;
             }) kept2) (TaskConnected d);
         link = subst (λ b. WorkKept b g i (with_at tickets x new) (linked t (TaskConnected d)) d) (sym senses) (ask-is g i tickets x new (linked t (TaskConnected d)) d old.area refl (sym tag) here lun refl
-            (λ y z. let same : u ≡ y = some u y (sym there ∙ z) in subst (λ b. IsSound (session b d)) same (record { task = wait.task; worth = λ j. absurd (let k : false ≡ true = j in cc) }))
+            (λ y z. let same : u ≡ y = same_Some u y (sym there ∙ z) in subst (λ b. IsSound (session b d)) same (record { task = wait.task; worth = λ j. absurd (let k : false ≡ true = j in cc) }))
             tt
             (λ y z. record {
               cdb = refl;

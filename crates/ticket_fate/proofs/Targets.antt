@@ -1,6 +1,7 @@
 -- One ticket and its unit change: what stays of the target. Then what each call makes of a target that is linked to its tickets.
 use Rattle.std.proofs.Common.{◌≡◌, ◌≢◌, ℕ, zero, suc, ◌≤◌, ◌<◌, Bool, true, false, List, [], ◌∷◌, refl, ap, arith, sym, ◌∙◌, subst, Option, Some, None, ◌⊎◌, inl, inr, set}
 use Rattle.std.specs.Prelude.{slice_get}
+use Rattle.std.proofs.lemmas.Option.{same_Some}
 use Rattle.cdb_codec.specs.Forms.{need_of}
 use Rattle.scsi_words.specs.declared.phases.kinds.Direction.{Direction}
 use Rattle.scsi_words.specs.declared.phases.kinds.Direction.TheVariants.{In, Out, None as NoData}
@@ -53,9 +54,6 @@ unit-other us lun j v d = ap flat (get-set-other us lun j (Some v) d)
 
 pub at-lun : (t : Target) (lun : ℕ) (f : LogicalUnit → Target) (u : LogicalUnit) → unit_at t.units lun ≡ Some u → at_lun t lun f ≡ f u
 at-lun t lun f u e = ap (λ o. on_unit o f t) e
-
-same_Some : {X : Type 0} (a b : X) → Some a ≡ Some b → a ≡ b
-same_Some a b e = cc
 
 -- a ticket of another unit changes
 pub unit-elsewhere : (g : Plan) (n : ℕ) (tickets : ℕ → Ticket) (x : ℕ) (k : Ticket) (u : LogicalUnit) → unit_of g x ≢ n → UnitKept g n tickets u → UnitKept g n (with_at tickets x k) u
@@ -153,7 +151,7 @@ work-is g i tickets x k t c own e f life task sound worth =
       worth = worth;
     }
 
-not-away : (k : Ticket) → k.life ≡ Connected → k.life ≡ Away → ⊥
+pub not-away : (k : Ticket) → k.life ≡ Connected → k.life ≡ Away → ⊥
 not-away k e f = let g : Connected ≡ Away = sym e ∙ f in cc
 
 -- a connected ticket with another task

@@ -2,6 +2,7 @@
 use Rattle.std.proofs.Common.{◌≡◌, ◌≢◌, ℕ, ◌≤◌, ◌<◌, Bool, true, false, List, [], ◌∷◌, refl, ap, arith, sym, ◌∙◌, subst, Some, inl, inr, remove, cond, nat_eq, nat_lt}
 use Rattle.std.specs.Prelude.{slice_get, ◌||◌}
 use Rattle.std.proofs.lemmas.Bool.Decides.{nat_tests}
+use Rattle.std.proofs.lemmas.Option.{same_Some}
 use Rattle.cdb_codec.specs.declared.commands.Cdb.{Cdb}
 use Rattle.cdb_codec.specs.declared.commands.Cdb.TheVariants.{TestUnitReady, RequestSense, Read, Write, Inquiry, ReadCapacity, BadField, Other}
 use Rattle.cdb_codec.specs.Forms.{need_of}
@@ -36,10 +37,7 @@ use Rattle.ticket_fate.proofs.SenseLives.{unasked-entry}
 use Rattle.ticket_fate.proofs.DataBytes.{pointed}
 use Rattle.ticket_fate.proofs.TaskLists.{lists-other, lists-leave, lists-reselect, away-at}
 use Rattle.ticket_fate.proofs.LastEntries.{Closes, ends as closes-end, rejects as closes-rejected, drop-loss, drop-plain}
-use Rattle.ticket_fate.proofs.Targets.{Changed, unit-changed, units-changed, units-ticket-changed, unit-of-work, work-is, unit-same, x, at, kept, runs}
-
-not-away : (k : Ticket) → k.life ≡ Connected → k.life ≡ Away → ⊥
-not-away k e f = let g : Connected ≡ Away = sym e ∙ f in cc
+use Rattle.ticket_fate.proofs.Targets.{not-away, Changed, unit-changed, units-changed, units-ticket-changed, unit-of-work, work-is, unit-same, x, at, kept, runs}
 
 refused-same : (st : Status) (s : Session) (y : Task) → IsWaiting s.unit y → IsWaiting (closed (Refused st) s).unit y
 unfolding closed
@@ -186,13 +184,10 @@ module _ (g : Plan) (count : ℕ) (plan : IsPlan g count) (i : ℕ) (tickets : �
       record {
         units = units-changed g count plan i tickets t h.units k.ticket new (g.units n).lun u v target lun there kept2 (TaskConnected c);
         link = subst (λ b. WorkKept b g i (with_at tickets k.ticket new) (record { units = with_unit t.units (g.units n).lun v; link = TaskConnected c }) c) (sym plain) (work-is g i tickets k.ticket new (record { units = with_unit t.units (g.units n).lun v; link = TaskConnected c }) c refl target lun refl refl
-            (λ y z. let same_unit : v ≡ y = some v y (sym (unit-same t.units (g.units n).lun u v there) ∙ z) in
+            (λ y z. let same_unit : v ≡ y = same_Some v y (sym (unit-same t.units (g.units n).lun u v there) ∙ z) in
             subst (λ b. IsSound (session b c)) same_unit (record { task = wait.task; worth = wait.turn }))
             tt);
       }
-    where
-      some : (a b : LogicalUnit) → Some a ≡ Some b → a ≡ b
-      some a b e = cc
 
 -- a fresh task of a ticket without End is no sense task
 asks-none : (c : Cdb) → asks_sense c false ≡ false
@@ -283,12 +278,9 @@ module _ (g : Plan) (count : ℕ) (plan : IsPlan g count) (i : ℕ) (tickets : �
               waits = λ z. absurd (let y : Connected ≡ Away = z in cc);
             }) kept2) (TaskConnected d);
         link = subst (λ b. WorkKept b g i (with_at tickets x new) (linked t (TaskConnected d)) d) (sym plain) (work-is g i tickets x new (linked t (TaskConnected d)) d refl here lun refl refl
-            (λ y z. let same : u ≡ y = some u y (sym there ∙ z) in subst (λ b. IsSound (session b d)) same (record { task = wait.task; worth = λ j. absurd (let k : false ≡ true = j in cc) }))
+            (λ y z. let same : u ≡ y = same_Some u y (sym there ∙ z) in subst (λ b. IsSound (session b d)) same (record { task = wait.task; worth = λ j. absurd (let k : false ≡ true = j in cc) }))
             tt);
       })
-    where
-      some : (a b : LogicalUnit) → Some a ≡ Some b → a ≡ b
-      some a b e = cc
 
   pub begin-link : (n : Nexus) (u : LogicalUnit) → unit_at t.units n.lun ≡ Some u → n.lun ≡ (g.units (unit_of g x)).lun → n.tag ≡ (tickets x).tag → (tickets x).life ≡ Selected
       → ((y : ℕ) → unit_of g y ≡ unit_of g x → (tickets y).life ≡ Away → (tickets y).tag ≡ (tickets x).tag → ⊥) → AtLink (begun t n (command (g.requests x)) u x).link x

@@ -1,9 +1,10 @@
 -- A move leaves every target but one, and the tickets of every other target.
-use Rattle.std.proofs.Common.{◌≡◌, ◌≢◌, ℕ, Bool, true, false, refl, ap, sym, ◌∙◌, subst, Some}
+use Rattle.std.proofs.Common.{◌≡◌, ◌≢◌, ℕ, Bool, true, false, refl, ap, sym, ◌∙◌, subst}
+use Rattle.std.proofs.lemmas.Option.{same_Some}
 use Rattle.unit_law.specs.Log.{with_at, tally}
 use Rattle.unit_law.proofs.Views.{with_at-other, ne-test}
 use Rattle.target_law.specs.Bytes.{Connection}
-use Rattle.target_law.specs.Target.{LogicalUnit, TaskConnected, Target}
+use Rattle.target_law.specs.Target.{TaskConnected, Target}
 use Rattle.ticket_fate.specs.Tickets.{Plan, Ticket}
 use Rattle.ticket_fate.specs.Linked.{UnitKept, WorkKept, LinkKept, ResetCause, ByBus, reset_ticket, reset_tickets, log_of}
 use Rattle.ticket_fate.specs.Moves.{parts_ticket, target_of, Moves, alone, points, marks, relinks, acts, sends, receives, hears, listens, leaves_bus, completes, drops_task, reselects, begins, ask_sends, ask_completes, ask_begins, resets_idle, resets_work, resets_asking}
@@ -49,11 +50,8 @@ module _ (g : Plan) (count : ℕ) (ks : ℕ → Ticket) (ts : ℕ → Target) (h
   moves-one ns us (drops_task i c u w plain there e) = calls i c _ _ w
   moves-one ns us (reselects n m u k less idle there e) =
       let old = (h.each (g.units n).target).units n less refl in
-      let unit : UnitKept g n ks u = subst (UnitKept g n ks) (some old.0 u (sym old.1 ∙ there)) old.2 in
+      let unit : UnitKept g n ks u = subst (UnitKept g n ks) (same_Some old.0 u (sym old.1 ∙ there)) old.2 in
       ((g.units n).target, changes (g.units n).target k.ticket _ _ (ap (λ z. (g.units z).target) (away-at g n ks m u.tasks k unit.lists.tasks e).unit))
-    where
-      some : (a b : LogicalUnit) → Some a ≡ Some b → a ≡ b
-      some a b e = cc
   moves-one ns us (begins y n u idle there lun tag life others) = (target_of g y, changes (target_of g y) y _ _ refl)
   moves-one ns us (ask_sends i c at b w asks e byte) = calls i c _ _ w
   moves-one ns us (ask_completes i c u v s w asks there e) = calls i c _ _ w

@@ -1,5 +1,6 @@
 -- No move gives a live ticket the tag of another one.
-use Rattle.std.proofs.Common.{◌≡◌, ◌≢◌, ℕ, Bool, true, false, refl, ap, sym, ◌∙◌, subst, Some, ◌⊎◌, inl, inr, nat_eq}
+use Rattle.std.proofs.Common.{◌≡◌, ◌≢◌, ℕ, Bool, true, false, refl, ap, sym, ◌∙◌, subst, ◌⊎◌, inl, inr, nat_eq}
+use Rattle.std.proofs.lemmas.Option.{same_Some}
 use Rattle.unit_law.specs.Log.{View, with_at, tally}
 use Rattle.unit_law.proofs.Views.{with_at-same, with_at-other, same_or_not}
 use Rattle.target_law.specs.declared.task_phase.Completion.{Completion}
@@ -8,7 +9,7 @@ use Rattle.target_law.specs.declared.task_phase.TaskPhase.{TaskPhase}
 use Rattle.target_law.specs.declared.task_phase.TaskPhase.TheVariants.{ToChoose, MessageOut, DataIn, DataOut, Status, MessageIn}
 use Rattle.target_law.specs.Session.{Task, Session}
 use Rattle.target_law.specs.Bytes.{Connection}
-use Rattle.target_law.specs.Target.{LogicalUnit, TaskConnected, Target, session}
+use Rattle.target_law.specs.Target.{TaskConnected, Target, session}
 use Rattle.ticket_fate.specs.Tickets.{Plan, unit_of, Life, Unbuilt, Asks, Selected, is_live, Ticket, ticket_sent, ticket_asked, view_for}
 use Rattle.ticket_fate.specs.Linked.{IsPlan, UnitKept, ResetCause, ByBus, ByDevice, lost_life, reset_ticket, log_of}
 use Rattle.ticket_fate.specs.Moves.{CompletesTicket, parts_ticket, TicketMove, builds, links, queues, requeues, selects, times_out, cancels, takes_again, takes_refused, takes, takes_checked, asks, ask_selects, takes_sense, sweeps_asking, selects_rogue, strays, ends_rogue, sweeps, unlinks, frees, target_of, Moves, alone, points, marks, relinks, acts, sends, receives, hears, listens, leaves_bus, completes, drops_task, reselects, begins, ask_sends, ask_completes, ask_begins, resets_idle, resets_work, resets_asking}
@@ -132,11 +133,8 @@ module _ (g : Plan) (count : ℕ) (plan : IsPlan g count) (ks : ℕ → Ticket) 
   apart-kept ns us (drops_task i c u w plain there e) free a = all-kept g ks ns (called i c _ w refl) a
   apart-kept ns us (reselects n m u k less idle there e) free a =
       let old = (h.each (g.units n).target).units n less refl in
-      let unit : UnitKept g n ks u = subst (UnitKept g n ks) (some old.0 u (sym old.1 ∙ there)) old.2 in
+      let unit : UnitKept g n ks u = subst (UnitKept g n ks) (same_Some old.0 u (sym old.1 ∙ there)) old.2 in
       all-kept g ks ns (one g ks k.ticket _ (refl, λ l. ap is_live (away-at g n ks m u.tasks k unit.lists.tasks e).life)) a
-    where
-      some : (a b : LogicalUnit) → Some a ≡ Some b → a ≡ b
-      some a b e = cc
   apart-kept ns us (begins y n u idle there lun tag life others) free a = all-kept g ks ns (one g ks y _ (refl, λ l. ap is_live life)) a
   apart-kept ns us (ask_sends i c at b w sense e byte) free a = all-kept g ks ns (called i c _ w (asked-tag c.shows at b (ks c.task.ticket) _)) a
   apart-kept ns us (ask_completes i c u v s w sense there e) free a = all-kept g ks ns (called i c _ w refl) a
