@@ -1,32 +1,28 @@
 -- Each call of the bus, and so each step of the chip, leaves what the rig says of the units, and which targets answer.
-use Rattle.std.proofs.Common.{◌≡◌, ◌⊎◌, ℕ, zero, suc, ◌<◌, List, [], ◌∷◌, length, refl, sym, ap, subst, ◌∙◌, ◌/◌, ◌%◌, Bool, true, false, Option, Some, None, set, get_or}
+use Rattle.std.proofs.Common.{◌≡◌, ℕ, zero, suc, List, [], ◌∷◌, refl, sym, ap, subst, ◌∙◌, ◌/◌, ◌%◌, Bool, true, false, Option, Some, None}
 use Rattle.std.specs.Prelude.{not, ◌||◌, fold, map, slice_index_or, slice_set}
 use Rattle.std.specs.List.{list_any, range_with_len}
 use Rattle.scsi_words.specs.declared.phases.kinds.Phase.{Phase as BusPhase}
 use Rattle.rig_types.specs.declared.rig.Unit.{Unit as RigUnit}
 use Rattle.chip_step.specs.Event as event
 use Rattle.chip_step.specs.Event.{Event}
-use Rattle.chip_step.specs.Chip.{Chip}
-use Rattle.chip_step.specs.declared.outcome.StepEnd.{StepEnd}
 use Rattle.chip_rows.proofs.RelatedBuses.{steps_show}
 use Rattle.target_law.specs.declared.nexus.Nexus.{Nexus}
-use Rattle.target_law.specs.Calls.{answers, slot_answers, link_phase, link_byte, sent_if, asked_by, target_selected, target_reselected, target_acted, target_messaged, target_acked}
-use Rattle.target_law.specs.Beginning.{target_took}
-use Rattle.target_law.specs.Bytes.{Connection}
-use Rattle.target_law.specs.Devices.{DeviceState, where_room, reserved_for, device_reserved}
+use Rattle.target_law.specs.Calls.{answers, slot_answers, link_phase, target_acted, target_messaged, target_acked}
+use Rattle.target_law.specs.Devices.{DeviceState, reserved_for, device_reserved}
 use Rattle.target_law.specs.Rigs.{rigs}
-use Rattle.target_law.specs.Target.{Target, LogicalUnit, ConnectionState, BusFree, Selected, TakingCommand, TaskConnected, RogueConnected, unit_at, on_unit, at_lun, linked, parted, leaves, unit_left, target_reset}
+use Rattle.target_law.specs.Target.{Target, LogicalUnit, ConnectionState, BusFree, Selected, TakingCommand, TaskConnected, RogueConnected, unit_at, on_unit, parted, leaves, unit_left, target_reset}
 use Rattle.target_law.proofs.Rigs.{rigs-with_unit, rigs-acted, rigs-messaged, rigs-acked, rigs-reselected, rigs-reset, rigs-took, rigs-where_room}
 use Rattle.target_law.specs.declared.moves.Move.{Move}
-use Rattle.bus_law.specs.Bus.{BusState, no_device, device_at, device_of, link_on, with_device, free_if, becomes, device_reset, bus_reset}
-use Rattle.bus_law.specs.Choices.{named, acts, chooses, left_by, left_where, turned_by, turned, after_turn}
+use Rattle.bus_law.specs.Bus.{BusState, no_device, device_at, link_on, with_device, free_if, becomes, device_reset, bus_reset}
+use Rattle.bus_law.specs.Choices.{named, acts, chooses, left_by, turned_by, turned, after_turn}
 use Rattle.bus_law.specs.Bytes.{sent, after_byte_in, after_byte_out, device_took}
-use Rattle.bus_law.specs.Reselections.{Candidate, candidate_named, reselected, after_reselection, can_select, device_selected, device_reselected, selected, after_selection}
+use Rattle.bus_law.specs.Reselections.{Candidate, candidate_named, after_reselection, can_select, device_selected, device_reselected, after_selection}
 use Rattle.bus_law.specs.Attention.{is_message_out, device_messaged, messaged, after_atn, device_acked, acked, after_ack}
 use Rattle.bus_law.specs.Moves.{moves}
 use Rattle.bus_law.specs.Rooms.{reserve_of, with_room_for, with_room_of, with_room, with_room_at, with_all_room}
 use Rattle.world_law.specs.World.{World, live}
-use Rattle.world_law.specs.ChipSteps.{chip_of, RunsChip}
+use Rattle.world_law.specs.ChipSteps.{chip_of}
 use Rattle.word_owners.specs.Answering as own
 use Rattle.word_owners.specs.Answering.{AreAnswering, AnsweringStays}
 

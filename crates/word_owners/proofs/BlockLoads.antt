@@ -1,33 +1,26 @@
 -- LOADs from a block or a slot at DSA, the LOAD of FRONT, and the RETURNs of pointers keep the invariant.
-use Rattle.std.proofs.Common.{◌≡◌, ◌≢◌, ◌⊎◌, inl, inr, ℕ, pos, ◌+◌, ◌*◌, ◌%◌, ◌<◌, ◌≤◌, List, Bool, true, false, refl, sym, ap, subst, ◌∙◌, arith, Option, Some, None}
+use Rattle.std.proofs.Common.{◌≡◌, ◌⊎◌, inl, inr, ℕ, pos, ◌+◌, ◌%◌, ◌≤◌, refl, sym, ap, subst, ◌∙◌, arith, Some, None}
 use Rattle.std.proofs.Math.Nat.{eq-or-lt_of_le}
 use Rattle.bench_words.specs.Memory.{word_at}
-use Rattle.rig_types.specs.declared.rig.Unit.{Unit as RigUnit}
 use Rattle.host_map.specs.Places.{start_slot, done_slot, IsCommandBlock}
 use Rattle.cmd_block.specs.declared.Field.TheVariants.{Start, Restart, Lastp, Savep, Gate}
 use Rattle.scripts_ops.specs.declared.values.Address.TheVariants.{At, FromDsa}
-use Rattle.scripts_ops.specs.declared.values.Condition.TheVariants.{Always}
-use Rattle.scripts_ops.specs.declared.values.Op.TheVariants.{Load, Return}
 use Rattle.driver_script.specs.Script.{instruction}
 use Rattle.chip_regs.specs.Bytes.{Dsa, Temp, ScratchA, ScratchB}
 use Rattle.phase_fix.specs.Remain.{field}
 use Rattle.phase_fix.specs.declared.moves.DataPhase.{DataPhase}
-use Rattle.phase_fix.specs.declared.moves.DataPhase.TheVariants.{In, Out}
 use Rattle.phase_fix.specs.declared.moves.Entry.{Entry}
 use Rattle.phase_fix.specs.declared.moves.Entry.TheVariants.{Segment, Context}
 use Rattle.phase_fix.proofs.MoveLaws.{entry_place, move_stands}
 use Rattle.desk_law.specs.declared.stage.Stage.{Stage}
 use Rattle.bus_law.specs.Bus.{BusState}
 use Rattle.ownership.specs.Words.{IsHead}
-use Rattle.world_law.specs.declared.reply.Reply.{Reply}
-use Rattle.world_law.specs.World.{World}
-use Rattle.world_law.specs.ChipSteps.{RunsChip}
-use Rattle.word_owners.specs.Tickets.{Tickets, tickets_of, block_of, target_of, goal, way, IsLive}
+use Rattle.word_owners.specs.Tickets.{Tickets, tickets_of, block_of, target_of, goal, way}
 use Rattle.word_owners.specs.Pointers.{Names, move_place}
-use Rattle.word_owners.specs.Points.{Point, At008, At010Idle, At010Job, At010Sense, At018Idle, At018Job, At018Sense, At028, At030, At038, At038Idle, At040, At040Idle, At060, At0B8, At0C0, At108, At110, At128, At130, At1A0, At1A0None, At1A8, At1A8Bad, At1A8None, At1B0, At1B0None, At1B8, At1B8None, At1F8, At258, At260, At278, At2B8, Moves}
-use Rattle.word_owners.specs.Parts.{Counts, Waits, Asks, IsStart}
-use Rattle.word_owners.specs.Holds.{Holds, Running, Linked}
-use Rattle.word_owners.specs.Nexts.{IsNext, Leads}
+use Rattle.word_owners.specs.Points.{At008, At010Idle, At010Job, At010Sense, At018Idle, At018Job, At018Sense, At028, At030, At038, At038Idle, At040, At040Idle, At060, At0B8, At0C0, At108, At110, At128, At130, At1A0, At1A0None, At1A8, At1A8Bad, At1A8None, At1B0, At1B0None, At1B8, At1B8None, At1F8, At258, At260, At278, At2B8, Moves}
+use Rattle.word_owners.specs.Parts.{IsStart}
+use Rattle.word_owners.specs.Holds.{Running}
+use Rattle.word_owners.specs.Nexts.{IsNext}
 use Rattle.word_owners.proofs.PointGroups.{from_dsa, StepsHold}
 use Rattle.word_owners.proofs.Frames.{active-live}
 use Rattle.word_owners.proofs.ChipSteps.{loaded, returned, leads}

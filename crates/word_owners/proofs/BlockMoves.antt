@@ -27,7 +27,7 @@ use Rattle.bus_law.proofs.BusLaws.{moves_lawfully}
 use Rattle.world_law.specs.ChipSteps.{stop_for}
 use Rattle.world_law.specs.declared.reply.Stop.TheVariants as stop
 
-by_bool : (P Q C : Type 0) (b : Bool) → MatchBool b P Q → (b ≡ true → P → C) → (b ≡ false → Q → C) → C
+pub by_bool : (P Q C : Type 0) (b : Bool) → MatchBool b P Q → (b ≡ true → P → C) → (b ≡ false → Q → C) → C
 by_bool P Q C true h f g = f refl h
 by_bool P Q C false h f g = g refl h
 

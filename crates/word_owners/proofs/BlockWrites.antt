@@ -1,17 +1,16 @@
 -- A word of a ticket's block that the script writes: LASTP, SAVEP, STATE or GATE.
-use Rattle.std.proofs.Common.{◌≡◌, ◌≢◌, ◌⊎◌, inl, inr, ℕ, ◌+◌, ◌-◌, ◌<◌, ◌≤◌, List, length, refl, sym, ap, subst, ◌∙◌, arith, Option, Some, None}
+use Rattle.std.proofs.Common.{◌≡◌, ◌≢◌, ◌⊎◌, inl, inr, ℕ, ◌+◌, ◌≤◌, length, refl, sym, ap, subst, ◌∙◌, arith, Option, Some, None}
 use Rattle.bench_words.specs.Views.{Apart, Outside, Wrote}
-use Rattle.host_map.specs.Places.{done_slot}
-use Rattle.cmd_block.specs.declared.Field.TheVariants.{Start, Restart, Lastp, Savep, State, Gate}
+use Rattle.cmd_block.specs.declared.Field.TheVariants.{Lastp, Savep, Gate}
 use Rattle.phase_fix.specs.Remain.{field}
 use Rattle.desk_law.specs.declared.stage.Stage.{Stage}
 use Rattle.desk_law.specs.declared.stage.Stage.TheVariants.{Built, Linked, Queued, Sensing}
-use Rattle.word_owners.specs.Tickets.{Fixed, Tickets, block_of, target_of, goal, way, IsLive, IsActive, AreTickets}
+use Rattle.word_owners.specs.Tickets.{Tickets, block_of, target_of, goal, way, IsLive, IsActive, AreTickets}
 use Rattle.word_owners.specs.Pointers.{IsPointer}
 use Rattle.word_owners.specs.Parts.{Counts, Parts, TagTables, IsStart, IsBlock, IsFresh, IsBegun, IsOver, IsThere, NotStarting, NotEntered, MayWork}
-use Rattle.word_owners.proofs.Frames.{Same, SameState, same_or, active-live, block-with, begun-frame, over-frame, not_starting-frame, not_entered-frame}
+use Rattle.word_owners.proofs.Frames.{SameState, same_or, active-live, block-with, not_starting-frame, not_entered-frame}
 use Rattle.word_owners.proofs.StageChanges.{Aside}
-use Rattle.word_owners.proofs.WriteFrames.{BlockChanges, parts-block, tags-frame, may-work}
+use Rattle.word_owners.proofs.WriteFrames.{parts-block, tags-frame, may-work}
 
 active-not-fresh : (s : Stage) → IsActive s → IsFresh s → ⊥
 active-not-fresh s (inl a) (inl b) = let e : Queued ≡ Built = sym a ∙ b in absurd cc

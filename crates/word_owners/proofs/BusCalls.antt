@@ -1,5 +1,5 @@
 -- Instructions that call the bus and leave memory: what each comes to, whatever the bus answers.
-use Rattle.std.proofs.Common.{◌≡◌, ◌≢◌, ◌⊎◌, inl, inr, ℕ, pos, ◌+◌, ◌-◌, ◌*◌, ◌/◌, ◌%◌, ◌<◌, List, Bool, true, false, nat_lt, refl, sym, ap, subst, ◌∙◌, arith, Option, Some, None}
+use Rattle.std.proofs.Common.{◌≡◌, ◌⊎◌, inl, inr, ℕ, ◌+◌, ◌-◌, ◌*◌, ◌%◌, ◌<◌, List, Bool, true, false, ◌&&◌, nat_lt, refl, sym, ap, subst, ◌∙◌, arith, Option, Some, None}
 use Rattle.std.specs.Prelude.{is_none, option_map, length, slice_get, MatchBool}
 use Rattle.std.proofs.lemmas.Bool.Decides.{nat_tests}
 use Rattle.bench_words.specs.Memory.{word_at}
@@ -9,36 +9,32 @@ use Rattle.scripts_ops.specs.declared.values.Condition.{Condition}
 use Rattle.scripts_ops.specs.declared.values.Condition.TheVariants as condition
 use Rattle.scripts_ops.specs.declared.values.Op.TheVariants.{Jump, Clear, Set, WaitDisconnect, Int}
 use Rattle.driver_script.specs.Script.{instruction}
-use Rattle.chip_regs.specs.Registers.{is_stopped, stop_with}
-use Rattle.chip_regs.specs.declared.registers.Cause.{Cause}
+use Rattle.chip_regs.specs.Registers.{stop_with}
 use Rattle.chip_regs.specs.declared.registers.Cause.TheVariants.{Sir, Ma, Udc}
 use Rattle.chip_regs.specs.declared.registers.Regs.{Regs}
 use Rattle.chip_step.specs.Event as event
 use Rattle.chip_step.specs.Event.{Event}
 use Rattle.chip_step.specs.Blocks.{Asks}
-use Rattle.chip_step.specs.Chip.{Chip, Ends}
+use Rattle.chip_step.specs.Chip.{Ends}
 use Rattle.chip_step.specs.Connection.{Clears, Sets, Waits, WaitsAt}
 use Rattle.chip_step.specs.Step.{after_fetch}
-use Rattle.chip_step.specs.Transfers.{Decides, Transfers, TransfersAt, when_phase}
-use Rattle.chip_step.specs.declared.outcome.StepEnd.{StepEnd}
+use Rattle.chip_step.specs.Transfers.{Decides, Transfers, TransfersAt}
 use Rattle.chip_step.specs.declared.outcome.StepEnd.TheVariants.{Ran, Stopped}
-use Rattle.target_law.specs.declared.nexus.Nexus.{Nexus}
 use Rattle.phase_fix.specs.Moves.{move_at}
 use Rattle.bus_law.specs.Bus.{BusState}
-use Rattle.bus_law.specs.Choices.{after_turn}
 use Rattle.bus_law.specs.Moves.{moves}
 use Rattle.bus_law.specs.Reselections.{Candidate, named_if, with_id, if_id, target_of as target_named}
 use Rattle.bus_law.proofs.Connections.{connects}
 use Rattle.ownership.proofs.Transfers.{stops_with}
 use Rattle.world_law.specs.declared.reply.Reply.{Reply}
-use Rattle.world_law.specs.declared.reply.Stop.TheVariants as stop
 use Rattle.world_law.specs.World.{World, live}
-use Rattle.world_law.specs.ChipSteps.{chip_of, stop_for, RunsChip}
+use Rattle.world_law.specs.ChipSteps.{chip_of, RunsChip}
 use Rattle.word_owners.specs.Tickets.{Tickets, tickets_of}
 use Rattle.word_owners.specs.Points.{Point, about, Link, OfTicket, OfTarget, Nobody, Anyone}
 use Rattle.word_owners.specs.Parts.{Counts}
 use Rattle.word_owners.specs.Works.{Works}
-use Rattle.word_owners.specs.Holds.{Holds, Running, NotData, Broken, AtPoint, Linked, StoppedFor}
+use Rattle.word_owners.specs.Holds.{Holds, Running, NotData, Broken, AtPoint, Linked}
+pub use Rattle.word_owners.proofs.BlockMoves.{by_bool, Still, still-then}
 use Rattle.word_owners.proofs.ChipSteps.{Turns, arrives, lands, breaks, past, row, stands, stopped-for, linked-con}
 
 -- ---- tests
@@ -47,20 +43,11 @@ pub when_false : (P Q : Type 0) (b : Bool) → b ≡ false → MatchBool b P Q �
 when_false P Q true e h = absurd cc
 when_false P Q false e h = h
 
-pub by_bool : (P Q C : Type 0) (b : Bool) → MatchBool b P Q → (b ≡ true → P → C) → (b ≡ false → Q → C) → C
-by_bool P Q C true h f g = f refl h
-by_bool P Q C false h f g = g refl h
+pub both-true : (a b : Bool) → a ≡ true → b ≡ true → a && b ≡ true
+both-true true b e f = f
+both-true false b e f = absurd cc
 
 -- ---- the bus
-
--- who was connected still is, or the bus is free
-abbrev pub Still : BusState → BusState → Type 0
-Still b n = (n.connected ≡ b.connected) ⊎ (n.connected ≡ None)
-
-pub still-then : (a b c : BusState) → Still a b → Still b c → Still a c
-still-then a b c (inl h) (inl k) = inl (k ∙ h)
-still-then a b c (inr h) (inl k) = inr (k ∙ h)
-still-then a b c h (inr k) = inr k
 
 pub linked-still : (l : Link) (ts : Tickets) (b n : BusState) (r : Regs) → Still b n → Linked l ts b r → Linked l ts n r
 linked-still (OfTicket t) ts b n r (inl s) (inl h) = inl (s ∙ h)

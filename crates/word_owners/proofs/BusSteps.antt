@@ -1,20 +1,19 @@
 -- Instructions that leave memory keep the invariant: ACK and ATN, WAIT, the jumps by a phase or a byte, INT, and WAIT RESELECT.
-use Rattle.std.proofs.Common.{◌≡◌, ◌⊎◌, inl, inr, ℕ, ◌+◌, ◌-◌, ◌*◌, ◌<◌, List, Bool, true, false, refl, sym, ap, subst, ◌∙◌, arith, Option, Some, None}
-use Rattle.std.specs.Prelude.{MatchBool, bit_or}
-use Rattle.bench_words.specs.Memory.{word_at}
+use Rattle.std.proofs.Common.{◌≡◌, ◌⊎◌, inl, inr, ℕ, List, true, false, refl, sym, ap, subst, ◌∙◌, arith, Option, Some, None}
+use Rattle.std.specs.Prelude.{bit_or}
 use Rattle.rig_types.specs.declared.rig.Unit.{Unit as RigUnit}
 use Rattle.scripts_ops.specs.declared.values.Change.TheVariants as change
 use Rattle.scripts_ops.specs.declared.values.Condition.TheVariants as condition
 use Rattle.scripts_ops.specs.declared.values.Op.TheVariants as op
 use Rattle.driver_script.specs.Script.{instruction}
-use Rattle.chip_regs.specs.Registers.{byte_at, after_read, stop_with}
-use Rattle.chip_regs.specs.declared.registers.Cause.TheVariants.{Sir, Iid}
+use Rattle.chip_regs.specs.Registers.{byte_at, after_read}
+use Rattle.chip_regs.specs.declared.registers.Cause.TheVariants.{Sir}
 use Rattle.chip_regs.specs.declared.registers.Regs.{Regs}
 use Rattle.chip_step.specs.Event as event
-use Rattle.chip_step.specs.Chip.{Chip, Becomes, Stops}
-use Rattle.chip_step.specs.Connection.{Reselects, ReselectsBy, reselected_by}
+use Rattle.chip_step.specs.Chip.{Chip, Becomes}
+use Rattle.chip_step.specs.Connection.{Reselects, ReselectsBy}
 use Rattle.chip_step.specs.Step.{after_fetch}
-use Rattle.chip_step.specs.declared.outcome.StepEnd.TheVariants.{Ran, Idle, Stopped}
+use Rattle.chip_step.specs.declared.outcome.StepEnd.TheVariants.{Idle, Stopped}
 use Rattle.chip_step.specs.declared.outcome.StepEnd.{StepEnd}
 use Rattle.phase_fix.specs.Moves.{move_at}
 use Rattle.bus_law.specs.Bus.{BusState}
@@ -24,16 +23,14 @@ use Rattle.bus_law.proofs.Connections.{connects}
 use Rattle.ownership.proofs.Transfers.{interrupts}
 use Rattle.world_law.specs.declared.reply.Reply.{Reply}
 use Rattle.world_law.specs.World.{World, live}
-use Rattle.world_law.specs.ChipSteps.{chip_of, after_chip, stop_after, RunsChip}
-use Rattle.word_owners.specs.Tickets.{tickets_of}
-use Rattle.word_owners.specs.Points.{Point, about, At000, At008, At048, At050, At090, At098, At0A0, At0A8, At0B0, At0B8, At0C8, At0D8, At0E0, At0E8, At0F0, At0F8, At100, At108, At118, At120, At128, At138, At140, At148, At150, At158, At1C0, At1C8, At1D0, At1D8, At1E8, At1F0, At268, At270, At278, At280, At288, At2A8, At2B0, At2B8}
+use Rattle.world_law.specs.ChipSteps.{chip_of, after_chip, RunsChip}
+use Rattle.word_owners.specs.Points.{Point, At000, At008, At048, At050, At090, At098, At0A0, At0A8, At0B0, At0B8, At0C8, At0D8, At0E0, At0E8, At0F0, At0F8, At100, At108, At118, At120, At128, At138, At140, At148, At150, At158, At1C0, At1C8, At1D0, At1D8, At1E8, At1F0, At268, At270, At278, At280, At288, At2A8, At2B0, At2B8}
 use Rattle.word_owners.specs.Parts.{Counts}
-use Rattle.word_owners.specs.Works.{Works}
-use Rattle.word_owners.specs.Holds.{Spot, Holds, Running, NotData, JobOver, Broken, AtPoint}
+use Rattle.word_owners.specs.Holds.{Spot, Holds, Running, NotData, JobOver, Broken}
 use Rattle.word_owners.specs.Nexts.{IsNext, Leads, Either, Asked, Waited}
 use Rattle.word_owners.proofs.PointGroups.{asks_bus, StepsHold}
 use Rattle.word_owners.proofs.BusCalls.{by_bool, when_false, id-below, cleared, sets, waited, either, asked, stops}
-use Rattle.word_owners.proofs.ChipSteps.{Turns, arrives, lands, breaks, leads, row, past, stands, stopped-for}
+use Rattle.word_owners.proofs.ChipSteps.{arrives, lands, breaks, leads, row, past, stands, stopped-for}
 
 module _ (version : ℕ) (units : List RigUnit) (p : Point) (c : Counts) (w : World) (h : Holds version units (Running p) c w) (new : World) (word : ℕ) (answer : Reply) (run : RunsChip w word answer new) where
   pub on-either : (q n : Point) → ((s : Spot) → Either q n s → IsNext p s) → Holds version units (Running q) c new ⊎ Holds version units (Running n) c new → Leads (IsNext p) version units c new

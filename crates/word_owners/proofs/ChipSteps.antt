@@ -1,5 +1,5 @@
 -- A step of the chip as the invariant reads it: its row, the world after it, and what is left to show of the spot where it leads.
-use Rattle.std.proofs.Common.{◌≡◌, ℕ, ◌+◌, ◌*◌, ◌^◌, ◌<◌, ◌≤◌, List, length, Bool, true, false, refl, sym, ap, subst, ◌∙◌, arith, Option, Some, None}
+use Rattle.std.proofs.Common.{◌≡◌, ℕ, ◌+◌, ◌*◌, ◌^◌, ◌<◌, ◌≤◌, List, false, refl, sym, ap, subst, ◌∙◌, arith, Option, Some, None}
 use Rattle.bench_words.specs.Memory.{word_at, put_word}
 use Rattle.bench_words.specs.Views.{Wrote}
 use Rattle.bench_words.proofs.Bytes.{bytes-put_word}
@@ -15,7 +15,7 @@ use Rattle.chip_regs.specs.Bytes.{Wide, Dsa, Temp, ScratchA, ScratchB, base_of, 
 use Rattle.chip_regs.specs.Registers.{is_stopped, cause_of}
 use Rattle.chip_regs.specs.declared.registers.Cause.{Cause}
 use Rattle.chip_regs.specs.declared.registers.Regs.{Regs}
-use Rattle.chip_step.specs.Chip.{Chip, Becomes, Ends}
+use Rattle.chip_step.specs.Chip.{Becomes, Ends}
 use Rattle.chip_step.specs.Instructions.{Does}
 use Rattle.chip_step.specs.Step.{after_fetch}
 use Rattle.chip_step.specs.declared.outcome.StepEnd.{StepEnd}

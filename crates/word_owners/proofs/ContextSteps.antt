@@ -1,5 +1,5 @@
 -- Behind the move of a context the chip loads where that goes back, and goes there: the invariant holds on.
-use Rattle.std.proofs.Common.{◌≡◌, ◌⊎◌, inl, inr, ℕ, zero, suc, pos, ◌+◌, ◌*◌, ◌<◌, ◌≤◌, List, Bool, true, false, nat_eq, refl, sym, ap, subst, ◌∙◌, arith, Option, Some, None}
+use Rattle.std.proofs.Common.{◌≡◌, ◌⊎◌, inl, inr, ℕ, zero, suc, pos, ◌+◌, ◌*◌, ◌<◌, ◌≤◌, List, Bool, true, false, nat_eq, refl, sym, ap, subst, ◌∙◌, arith}
 use Rattle.std.specs.Prelude.{if◌then◌else◌}
 use Rattle.std.proofs.Math.Nat.{eq-or-lt_of_le}
 use Rattle.bench_words.specs.Memory.{word_at}
@@ -10,19 +10,18 @@ use Rattle.scripts_ops.specs.declared.values.Condition.TheVariants.{Always}
 use Rattle.scripts_ops.specs.declared.values.Op.TheVariants.{Load, Return}
 use Rattle.driver_script.specs.Script.{instruction}
 use Rattle.chip_regs.specs.Bytes.{Temp}
-use Rattle.phase_fix.specs.declared.moves.DataMove.{DataMove}
 use Rattle.phase_fix.specs.declared.moves.DataPhase.{DataPhase}
 use Rattle.phase_fix.specs.declared.moves.DataPhase.TheVariants.{In, Out}
 use Rattle.phase_fix.specs.declared.moves.Entry.TheVariants.{Segment, Context}
 use Rattle.phase_fix.specs.Moves.{first_segment, context_label, move_at}
-use Rattle.phase_fix.specs.Remain.{field, remain, remain_at_move, segment_of_move, segments_from}
+use Rattle.phase_fix.specs.Remain.{field, remain_at_move, segment_of_move, segments_from}
 use Rattle.phase_fix.proofs.MoveLaws.{move_stands, move-place}
 use Rattle.world_law.specs.declared.reply.Reply.{Reply}
 use Rattle.world_law.specs.World.{World}
 use Rattle.world_law.specs.ChipSteps.{RunsChip}
-use Rattle.word_owners.specs.Tickets.{Tickets, tickets_of, block_of, goal, way}
-use Rattle.word_owners.specs.Pointers.{IsSuffix, IsWay, AreFilled, GoesBack, Names, move_place}
-use Rattle.word_owners.specs.Points.{Point, about, BehindContext, LeavesContext, Moves, At340, At3C8}
+use Rattle.word_owners.specs.Tickets.{tickets_of, block_of, goal, way}
+use Rattle.word_owners.specs.Pointers.{IsSuffix, Names, move_place}
+use Rattle.word_owners.specs.Points.{about, BehindContext, LeavesContext, Moves, At340, At3C8}
 use Rattle.word_owners.specs.Parts.{Counts}
 use Rattle.word_owners.specs.Holds.{Holds, Running}
 use Rattle.word_owners.specs.Nexts.{IsNext, Leads}

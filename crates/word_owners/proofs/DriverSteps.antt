@@ -1,5 +1,5 @@
 -- Each step of the driver but Build keeps the invariant, where it is enabled.
-use Rattle.std.proofs.Common.{◌≡◌, ◌⊎◌, inl, inr, ℕ, ◌+◌, ◌<◌, ◌≤◌, List, refl, sym, ap, subst, ◌∙◌, arith, Bool, true, false, nat_eq, Option, Some, None, get_or}
+use Rattle.std.proofs.Common.{◌≡◌, ◌⊎◌, inl, inr, ℕ, ◌<◌, List, refl, sym, subst, arith, Bool, true, false, Option, Some, None}
 use Rattle.std.specs.Prelude.{◌==◌, slice_get}
 use Rattle.std.proofs.lemmas.Bool.Decides.{nat_tests}
 use Rattle.std.proofs.lemmas.List.Elements.{All-get_or}
@@ -21,7 +21,7 @@ use Rattle.world_law.specs.Acts.{is_late, marks, aborts, device_resets, bus_rese
 use Rattle.world_law.specs.Repairs.{Fixes}
 use Rattle.world_law.specs.Enabling.{Enabled, MayQueue}
 use Rattle.world_law.specs.Steps.{Does, TakesOf}
-use Rattle.world_law.specs.Stops.{is_done, is_done_by}
+use Rattle.world_law.specs.Stops.{is_done_by}
 use Rattle.world_law.specs.World.{BenchSetting, World, decided, front}
 use Rattle.world_law.specs.declared.reply.Decided.{Decided}
 use Rattle.world_law.specs.declared.reply.Decided.TheVariants as line
@@ -31,7 +31,7 @@ use Rattle.world_law.specs.declared.reply.Stop.TheVariants as stop
 use Rattle.word_owners.specs.Answering.{AreAnswering}
 use Rattle.word_owners.specs.Parts.{Counts}
 use Rattle.word_owners.specs.Holds.{Spot, Holds}
-use Rattle.word_owners.specs.DriverSteps.{IsOwned, is_driven, DriverHolds}
+use Rattle.word_owners.specs.BenchSteps.{IsOwned}
 use Rattle.word_owners.proofs.Answering.{answering-room, answering-reset}
 use Rattle.word_owners.proofs.Aborts.{mark_holds}
 use Rattle.word_owners.proofs.DoneTaken.{take_holds}
@@ -44,6 +44,12 @@ use Rattle.word_owners.proofs.Queues.{queue_holds}
 use Rattle.word_owners.proofs.Restarts.{restart_holds}
 use Rattle.word_owners.proofs.Senses.{sense_holds}
 use Rattle.word_owners.proofs.Sweeps.{sweep_holds}
+
+-- the steps of the driver but Build
+abbrev pub is_driven : Step → Bool
+is_driven (step.Build l) = false
+is_driven (step.Chip word) = false
+is_driven _ = true
 
 -- the invariant holds at some spot
 record Held (version : ℕ) (units : List RigUnit) (w : World) : Type 0 where
@@ -200,7 +206,8 @@ module _ (units : List RigUnit) where
   answering g w new caller step.ResetBus answer is d a = of-bus _ new d.1 (answering-reset units w.bus a)
   answering g w new caller (step.Sense t) answer is d a = of-bus _ new d.1 a
 
-pub driver_holds : DriverHolds
+pub driver_holds : (g : BenchSetting) (version : ℕ) (units : List RigUnit) (w new : World) (caller : ℕ) (s : Step) (answer : Reply) → IsWork g.submitters g.acts → is_driven s ≡ true → Enabled g w caller s → Does g w caller s answer new
+    → IsOwned version units w → IsOwned version units new
 driver_holds g version units w new caller s answer work is may d o =
     let x : Held version units new = held g version units w new caller s answer work is may d (record { spot = o.spot; counts = o.counts; holds = o.holds }) in
     record { spot = x.spot; counts = x.counts; holds = x.holds; answering = answering units g w new caller s answer is d o.answering }

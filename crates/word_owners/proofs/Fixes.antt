@@ -1,9 +1,7 @@
 -- Fix keeps the invariant: what is left of a data move becomes a context, and both data pointers denote suffixes again.
-use Rattle.std.proofs.Common.{◌≡◌, ◌≢◌, ◌⊎◌, inl, inr, ℕ, ◌+◌, ◌-◌, ◌*◌, ◌%◌, ◌^◌, ◌<◌, ◌≤◌, List, ◌++◌, length, drop, Bool, true, false, refl, sym, ap, subst, ◌∙◌, arith, Some, None, length-drop, length-append, get_or}
+use Rattle.std.proofs.Common.{◌≡◌, ◌≢◌, ◌⊎◌, inl, inr, ℕ, ◌+◌, ◌-◌, ◌*◌, ◌%◌, ◌^◌, ◌<◌, ◌≤◌, List, length, Bool, true, false, refl, sym, ap, subst, ◌∙◌, arith, Some, None, length-append}
 use Rattle.std.specs.Prelude.{if◌then◌else◌, nat_eq, is_some}
-use Rattle.std.specs.List.{range_with_len}
 use Rattle.std.proofs.lemmas.Bool.Decides.{nat_tests}
-use Rattle.std.proofs.lemmas.List.{get_or-drop}
 use Rattle.std.proofs.lemmas.List.FromFn.{length-range_with_len}
 use Rattle.bench_words.specs.Memory.{word_at, put_word}
 use Rattle.bench_words.specs.Bytes.{IsBytes}
@@ -23,10 +21,10 @@ use Rattle.phase_fix.specs.declared.moves.DataPhase.TheVariants.{In, Out}
 use Rattle.phase_fix.specs.declared.moves.Entry.{Entry}
 use Rattle.phase_fix.specs.declared.moves.Entry.TheVariants.{Segment, Context}
 use Rattle.phase_fix.specs.Moves.{move_at, first_segment, IsEntry}
-use Rattle.phase_fix.specs.Remain.{field, count_of, address_of, range_of, remain, remain_at_move}
+use Rattle.phase_fix.specs.Remain.{field, count_of, address_of, range_of, remain}
 use Rattle.phase_fix.specs.Repair.{IsRepairable, IsRepaired, free_context, return_of, with_rest, repaired}
 use Rattle.phase_fix.proofs.MoveLaws.{entry_place, move_stands, move-context, free_below, free_is_other}
-use Rattle.phase_fix.proofs.RemainLaws.{SegmentsKept, remain-kept, drop-entry, behind_entry}
+use Rattle.phase_fix.proofs.RemainLaws.{SegmentsKept, remain-kept, behind_entry}
 use Rattle.phase_fix.proofs.RepairLaws.{repaired-last, repaired-saved, repaired-returns, again-repaired, rest-repaired}
 use Rattle.desk_law.specs.declared.stage.Stage.{Stage}
 use Rattle.desk_law.specs.Blocks.{beginning}

@@ -43,6 +43,8 @@ pub mod ChainOps
 pub mod ChainSteps
 pub mod AllSteps
 pub mod DriverSteps
+pub mod BenchSteps
 pub mod StopCauses
 pub mod Spaces
 pub mod FreedSpaces
+pub mod Readings

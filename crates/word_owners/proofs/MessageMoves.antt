@@ -1,14 +1,13 @@
 -- The moves of messages, commands and the status keep the invariant: they go on, are broken off, or can't be made.
-use Rattle.std.proofs.Common.{◌≡◌, ◌≢◌, ◌⊎◌, inl, inr, ℕ, pos, suc, ◌+◌, ◌-◌, ◌*◌, ◌%◌, ◌<◌, ◌≤◌, List, length, slice_index, Bool, true, false, refl, sym, ap, subst, ◌∙◌, arith, Option, Some, None}
+use Rattle.std.proofs.Common.{◌≡◌, inl, inr, ℕ, pos, suc, ◌+◌, ◌-◌, ◌*◌, ◌%◌, ◌<◌, ◌≤◌, List, length, slice_index, false, refl, sym, ap, subst, ◌∙◌, arith, Option, None}
 use Rattle.bench_words.specs.Memory.{word_at}
 use Rattle.bench_words.specs.Bytes.{IsBytes}
 use Rattle.rig_types.specs.declared.rig.Unit.{Unit as RigUnit}
-use Rattle.cmd_block.specs.declared.Field.TheVariants.{MsgCount, CmdCount, StatCount}
+use Rattle.cmd_block.specs.declared.Field.TheVariants.{CmdCount}
 use Rattle.scripts_ops.specs.declared.values.Op.TheVariants.{Move, MoveFrom}
 use Rattle.driver_script.specs.Script.{instruction}
 use Rattle.driver_script.specs.Moves.{data_move}
 use Rattle.chip_regs.specs.Registers.{is_stopped}
-use Rattle.chip_regs.specs.declared.registers.Cause.{Cause}
 use Rattle.chip_regs.specs.declared.registers.Cause.TheVariants.{Ma}
 use Rattle.chip_regs.specs.declared.registers.Regs.{Regs}
 use Rattle.chip_step.specs.Step.{ChipStep, after_fetch}
@@ -27,7 +26,7 @@ use Rattle.world_law.specs.declared.reply.Stop.{Stop}
 use Rattle.world_law.specs.World.{World, live}
 use Rattle.world_law.specs.ChipSteps.{chip_of, stop_after, RunsChip}
 use Rattle.word_owners.specs.Tickets.{Tickets, tickets_of, block_of, IsLive, AreTickets}
-use Rattle.word_owners.specs.Points.{Point, about, Link, At080, At088, At090, At0C8, At0D0, At0D8, At0E0, At288, At290, At2A0, At2A8}
+use Rattle.word_owners.specs.Points.{Point, about, At080, At088, At090, At0C8, At0D0, At0D8, At0E0, At288, At290, At2A0, At2A8}
 use Rattle.word_owners.specs.Parts.{Counts, Parts, MayWork}
 use Rattle.word_owners.specs.Works.{Works}
 use Rattle.word_owners.specs.Holds.{Spot, Holds, Running, NotData, Stays, AtPoint, Linked, work_at, link_at, ahead_at, closing_at}
@@ -37,7 +36,6 @@ use Rattle.word_owners.proofs.Frames.{Same, active-live, fixed-frame}
 use Rattle.word_owners.proofs.WriteFrames.{Spares, parts-spared, tags-frame, may-work}
 use Rattle.word_owners.proofs.Patches.{few}
 use Rattle.word_owners.proofs.BlockMoves.{Filled, filled-word, MovedSo, refused, broke, whole, moves_direct, moves_from}
-use Rattle.word_owners.proofs.BlockLoads.{head-block}
 use Rattle.word_owners.proofs.BusCalls.{Still, linked-still}
 use Rattle.word_owners.proofs.ChipSteps.{breaks, leads, ended, past, row, stands, stopped-for}
 

@@ -1,18 +1,18 @@
 -- At the opening of a rig each unit's target answers exactly where the unit isn't absent.
-use Rattle.std.proofs.Common.{◌≡◌, ◌≢◌, ◌⊎◌, inl, inr, ℕ, zero, suc, ◌+◌, ◌<◌, ◌≤◌, List, [], ◌∷◌, length, refl, sym, ap, subst, ◌∙◌, arith, Bool, true, false, nat_eq, Option, Some, None, length-set}
-use Rattle.std.specs.Prelude.{not, ◌||◌, ◌==◌, if◌then◌else◌, filter, fold, map, replicate, slice_index_or, slice_set}
-use Rattle.std.specs.List.{list_any, range_with_len}
+use Rattle.std.proofs.Common.{◌≡◌, ◌≢◌, ◌⊎◌, inl, inr, ℕ, zero, suc, ◌<◌, ◌≤◌, List, [], ◌∷◌, length, refl, sym, ap, ◌∙◌, arith, Bool, true, false, Option, Some, None, length-set}
+use Rattle.std.specs.Prelude.{not, ◌||◌, ◌==◌, if◌then◌else◌, fold, replicate, slice_set}
+use Rattle.std.specs.List.{list_any}
 use Rattle.std.proofs.lemmas.Bool.Decides.{nat_tests}
 use Rattle.std.proofs.lemmas.List.Elements.{All-get_or}
 use Rattle.std.proofs.lemmas.List.FromFn.{get_or-map-range_with_len}
-use Rattle.rig_types.specs.Ranges.{IsRig, IsUnit, Agree}
+use Rattle.rig_types.specs.Ranges.{IsRig, IsUnit}
 use Rattle.rig_types.specs.declared.rig.Unit.{Unit as RigUnit}
 use Rattle.target_law.specs.Calls.{answers, slot_answers}
 use Rattle.target_law.specs.Devices.{DeviceState, device_opened}
 use Rattle.target_law.specs.Target.{LogicalUnit, adds_unit, unit_opened, target_opened, with_unit}
 use Rattle.bus_law.specs.Bus.{bus_opened, device_at, no_device, units_of}
 use Rattle.desk_law.specs.Desk.{no_unit}
-use Rattle.word_owners.specs.Answering.{AreAnswering, AnsweringOpens, unit_at}
+use Rattle.word_owners.specs.Answering.{AnsweringOpens, unit_at}
 use Rattle.word_owners.proofs.Frames.{same_or}
 
 -- ---- the slots of a target

@@ -1,17 +1,15 @@
 -- A write of RINGP, of a done slot, of DONEP or of CUR leaves the rest of the parts.
-use Rattle.std.proofs.Common.{◌≡◌, ◌≢◌, ◌⊎◌, inl, inr, ℕ, ◌+◌, ◌*◌, ◌%◌, ◌<◌, ◌≤◌, List, length, refl, sym, ap, subst, ◌∙◌, arith, Option, Some, None}
+use Rattle.std.proofs.Common.{◌≡◌, ◌≢◌, ◌⊎◌, inl, inr, ℕ, ◌+◌, ◌<◌, ◌≤◌, length, sym, ap, ◌∙◌, arith, None}
 use Rattle.std.proofs.Math.Nat.{eq-or-lt_of_le}
 use Rattle.bench_words.specs.Views.{Wrote}
 use Rattle.host_map.specs.declared.TheConstants.{FRONT, RINGP}
 use Rattle.host_map.specs.Places.{start_slot, done_slot}
-use Rattle.cmd_block.specs.declared.Field.TheVariants.{State, Gate}
-use Rattle.phase_fix.specs.Remain.{field}
 use Rattle.desk_law.specs.declared.stage.Stage.{Stage}
 use Rattle.desk_law.specs.declared.stage.Stage.TheVariants.{Queued, Sensing}
-use Rattle.word_owners.specs.Tickets.{Tickets, block_of, target_of, IsLive, IsActive, AreTickets}
-use Rattle.word_owners.specs.Parts.{Counts, Parts, StartRing, DoneRing, Waits, Asks, IsBegun, IsOver, NotStarting, NotEntered, MayWork, HasAnswered, IsFront}
+use Rattle.word_owners.specs.Tickets.{Tickets, block_of, target_of, IsLive, AreTickets}
+use Rattle.word_owners.specs.Parts.{Counts, Parts, StartRing, DoneRing, IsBegun, IsOver, NotStarting, MayWork, IsFront}
 use Rattle.word_owners.specs.Works.{First, Done, Plays}
-use Rattle.word_owners.proofs.Frames.{Same, SameState, same_or, active-live, loaded-frame, chains-frame, constants-frame, fixed-frame, block-frame, waits-frame, begun-frame, over-frame, start-frame, done-frame, front-frame, not_starting-frame, not_entered-frame}
+use Rattle.word_owners.proofs.Frames.{Same, SameState, same_or, active-live, loaded-frame, chains-frame, constants-frame, fixed-frame, block-frame, begun-frame, over-frame, start-frame, done-frame, front-frame, not_starting-frame}
 use Rattle.word_owners.proofs.WriteFrames.{Spares, fresh-live}
 use Rattle.word_owners.proofs.Room.{done-room}
 

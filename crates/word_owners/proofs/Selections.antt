@@ -1,9 +1,8 @@
 -- The three SELECTs of the script keep the invariant: the target is selected, another one reselects, or nobody answers.
-use Rattle.std.proofs.Common.{◌≡◌, ◌≢◌, ◌⊎◌, inl, inr, ℕ, pos, ◌+◌, ◌*◌, ◌/◌, ◌%◌, ◌<◌, ◌≤◌, List, length, Bool, true, false, ◌&&◌, refl, sym, ap, subst, ◌∙◌, arith, Option, Some, None}
-use Rattle.std.specs.Prelude.{is_none, not, option_map, MatchBool}
+use Rattle.std.proofs.Common.{◌≡◌, ◌⊎◌, inl, inr, ℕ, pos, ◌+◌, ◌*◌, ◌/◌, ◌%◌, ◌<◌, List, Bool, true, false, ◌&&◌, refl, sym, ap, subst, ◌∙◌, arith, Option, Some, None}
+use Rattle.std.specs.Prelude.{is_none, not, option_map}
 use Rattle.bench_words.specs.Memory.{word_at}
 use Rattle.rig_types.specs.declared.rig.Unit.{Unit as RigUnit}
-use Rattle.cmd_block.specs.declared.Field.TheVariants.{Sel}
 use Rattle.scripts_ops.specs.declared.values.Op.TheVariants.{Select}
 use Rattle.driver_script.specs.Script.{instruction}
 use Rattle.chip_regs.specs.Registers.{stop_with}
@@ -20,9 +19,7 @@ use Rattle.chip_step.specs.declared.scsi_bus.Settled.TheVariants.{Selected, Rese
 use Rattle.chip_step.specs.declared.outcome.StepEnd.{StepEnd}
 use Rattle.chip_step.specs.declared.outcome.StepEnd.TheVariants.{Ran, Stopped}
 use Rattle.chip_rows.proofs.Words as rows
-use Rattle.phase_fix.specs.Remain.{field}
-use Rattle.target_law.specs.Calls.{answers}
-use Rattle.bus_law.specs.Bus.{BusState, device_at}
+use Rattle.bus_law.specs.Bus.{BusState}
 use Rattle.bus_law.specs.Moves.{moves}
 use Rattle.bus_law.specs.Reselections.{Candidate, calls, all_candidates, candidate_named, can_select, settles, after_selection, target_of as target_named}
 use Rattle.bus_law.proofs.Connections.{connects}
@@ -31,15 +28,15 @@ use Rattle.world_law.specs.declared.reply.Reply.{Reply}
 use Rattle.world_law.specs.World.{World, live}
 use Rattle.world_law.specs.ChipSteps.{chip_of, RunsChip}
 use Rattle.word_owners.specs.Answering.{AreAnswering}
-use Rattle.word_owners.specs.Tickets.{Tickets, tickets_of, block_of, target_of, IsLive}
-use Rattle.word_owners.specs.Points.{Point, about, Nobody, At050, At060, At068, At298, At2A0, At440, At448}
+use Rattle.word_owners.specs.Tickets.{tickets_of, block_of, target_of, IsLive}
+use Rattle.word_owners.specs.Points.{Point, about, At050, At060, At068, At298, At2A0, At440, At448}
 use Rattle.word_owners.specs.Parts.{Counts, IsThere}
 use Rattle.word_owners.specs.Holds.{Spot, Holds, Running, TimedOut, JobOver}
-use Rattle.word_owners.specs.Nexts.{IsNext, Leads, Called}
-use Rattle.word_owners.proofs.PointGroups.{SelectsHold, selects as select_points}
+use Rattle.word_owners.specs.Nexts.{IsNext}
+use Rattle.word_owners.proofs.PointGroups.{SelectsHold}
 use Rattle.word_owners.proofs.BlockLoads.{head-block, head-at}
-use Rattle.word_owners.proofs.BusCalls.{Still, when_false, id-below}
-use Rattle.word_owners.proofs.ChipSteps.{Arrives, arrives, lands, leads, past, row, stopped-for}
+use Rattle.word_owners.proofs.BusCalls.{Still, both-true, id-below, when_false}
+use Rattle.word_owners.proofs.ChipSteps.{arrives, lands, leads, past, row, stopped-for}
 use Rattle.word_owners.proofs.Frames.{active-live}
 
 -- ---- what the answer of the bus tells
@@ -62,10 +59,6 @@ comes-from None false r e = absurd cc
 last-true : (a b : Bool) → a && b ≡ true → b ≡ true
 last-true true b e = e
 last-true false b e = absurd cc
-
-both-true : (a b : Bool) → a ≡ true → b ≡ true → a && b ≡ true
-both-true true b e f = f
-both-true false b e f = absurd cc
 
 not-true : (a b : Bool) → a ≡ not b → a ≡ true → b ≡ false
 not-true a true e f = let z : false ≡ true = sym e ∙ f in absurd cc

@@ -1,6 +1,5 @@
 -- Each stop stage has the causes that it is for.
-use Rattle.std.proofs.Common.{◌≡◌, ◌⊎◌, inl, inr, ℕ, refl, sym, ap, ◌∙◌, Some}
-use Rattle.chip_regs.specs.Registers.{cause_of}
+use Rattle.std.proofs.Common.{◌≡◌, inl, inr, ℕ, refl, sym, ap, ◌∙◌}
 use Rattle.chip_regs.specs.declared.registers.Cause.{Cause}
 use Rattle.chip_regs.specs.declared.registers.Cause.TheVariants.{Iid, Bf, Ma, Udc, Sto, Rst, Sir}
 use Rattle.chip_regs.specs.declared.registers.Regs.{Regs}

@@ -1,11 +1,10 @@
 -- The STOREs of the script keep the invariant.
-use Rattle.std.proofs.Common.{◌≡◌, ◌≢◌, ◌⊎◌, inl, inr, ℕ, pos, ◌+◌, ◌*◌, ◌%◌, ◌^◌, ◌<◌, ◌≤◌, List, Bool, true, false, refl, sym, ap, subst, ◌∙◌, arith, Option, Some, None}
+use Rattle.std.proofs.Common.{◌≡◌, inl, inr, ℕ, pos, ◌+◌, ◌^◌, ◌<◌, refl, sym, ap, subst, ◌∙◌, arith, None}
 use Rattle.bench_words.specs.Memory.{word_at}
 use Rattle.bench_words.specs.Views.{Wrote}
-use Rattle.rig_types.specs.declared.rig.Unit.{Unit as RigUnit}
-use Rattle.host_map.specs.declared.TheConstants.{FRONT_IDLE, DONEP}
-use Rattle.host_map.specs.Places.{start_slot, done_slot, IsCommandBlock}
-use Rattle.cmd_block.specs.declared.Field.TheVariants.{Lastp, Savep, State, Gate}
+use Rattle.host_map.specs.declared.TheConstants.{FRONT_IDLE}
+use Rattle.host_map.specs.Places.{start_slot, done_slot}
+use Rattle.cmd_block.specs.declared.Field.TheVariants.{State, Gate}
 use Rattle.scripts_ops.specs.declared.values.Address.TheVariants.{At, FromDsa}
 use Rattle.driver_script.specs.Script.{instruction}
 use Rattle.chip_regs.specs.Bytes.{Dsa, ScratchA, ScratchB}
@@ -16,24 +15,19 @@ use Rattle.phase_fix.specs.declared.moves.DataPhase.{DataPhase}
 use Rattle.phase_fix.specs.declared.moves.DataPhase.TheVariants.{In, Out}
 use Rattle.phase_fix.specs.declared.moves.Entry.{Entry}
 use Rattle.phase_fix.specs.declared.moves.Entry.TheVariants.{Segment, Context}
-use Rattle.desk_law.specs.declared.stage.Stage.{Stage}
-use Rattle.desk_law.specs.declared.stage.Stage.TheVariants.{Queued, Sensing}
-use Rattle.world_law.specs.declared.reply.Reply.{Reply}
-use Rattle.world_law.specs.World.{World}
-use Rattle.world_law.specs.ChipSteps.{RunsChip}
-use Rattle.word_owners.specs.Tickets.{Tickets, tickets_of, block_of, goal, way, IsLive, AreTickets}
+use Rattle.word_owners.specs.Tickets.{Tickets, tickets_of, block_of, goal, way, AreTickets}
 use Rattle.word_owners.specs.Pointers.{IsPointer}
-use Rattle.word_owners.specs.Points.{Point, At068, At070, At078, At080, At110, At118, At130, At138, At1F8, At200, At210, At218, At220, At228, At230, At238, At240, At250, At258, At260, At268, At3D0, At3D8, At450, At458}
-use Rattle.word_owners.specs.Parts.{Counts, Parts, Asks, IsThere, MayWork, NotStarting}
-use Rattle.word_owners.specs.Holds.{Spot, Holds, IsDonep, Running}
-use Rattle.word_owners.specs.Nexts.{IsNext, Leads}
+use Rattle.word_owners.specs.Points.{At068, At070, At078, At080, At110, At118, At130, At138, At1F8, At200, At210, At218, At220, At228, At230, At238, At240, At250, At258, At260, At268, At3D0, At3D8, At450, At458}
+use Rattle.word_owners.specs.Parts.{Counts, Parts, Asks, IsThere, MayWork}
+use Rattle.word_owners.specs.Holds.{Running}
+use Rattle.word_owners.specs.Nexts.{IsNext}
 use Rattle.word_owners.proofs.PointGroups.{stores, StepsHold}
 use Rattle.word_owners.proofs.Frames.{active-live, begun-frame, over-frame, not_entered-frame}
 use Rattle.word_owners.proofs.WriteFrames.{parts-spared, tags-frame}
 use Rattle.word_owners.proofs.FrontWrites.{parts-front, tags-front}
 use Rattle.word_owners.proofs.Patches.{few}
 use Rattle.word_owners.proofs.RingWrites.{same-ticket, queued-not-sensing, spares-control, passed, begun-passed, out-passed, parts-passed, entered, parts-entered}
-use Rattle.word_owners.proofs.BlockWrites.{block-wrote, tags-wrote, below, out-wrote, not_entered-wrote, work-wrote, parts-wrote, parts-pointer, parts-shut, over-now, not-entered-now, parts-over}
+use Rattle.word_owners.proofs.BlockWrites.{block-wrote, tags-wrote, below, not_entered-wrote, work-wrote, parts-wrote, parts-pointer, parts-shut, over-now, not-entered-now, parts-over}
 use Rattle.word_owners.proofs.BlockLoads.{head-block, head-done}
 use Rattle.word_owners.proofs.ChipSteps.{stored}
 

@@ -1,25 +1,23 @@
 -- The tag of a reselection keeps the invariant: its messages, the table that it names in both versions, and its entry.
-use Rattle.std.proofs.Common.{◌≡◌, ◌≢◌, ◌⊎◌, inl, inr, ℕ, zero, suc, pos, ◌+◌, ◌-◌, ◌*◌, ◌/◌, ◌%◌, ◌^◌, ◌<◌, ◌≤◌, List, length, slice_index, Bool, true, false, ◌&&◌, nat_eq, nat_le, nat_lt, refl, sym, ap, subst, ◌∙◌, arith, Option, Some, None}
-use Rattle.std.specs.Prelude.{MatchBool, bit_and, bit_or, if◌then◌else◌, slice_index_or}
+use Rattle.std.proofs.Common.{◌≡◌, ◌⊎◌, inl, inr, ℕ, pos, ◌+◌, ◌-◌, ◌*◌, ◌/◌, ◌%◌, ◌^◌, ◌<◌, List, length, slice_index, Bool, true, false, nat_eq, nat_le, nat_lt, refl, sym, ap, subst, ◌∙◌, arith, Option, Some, None}
+use Rattle.std.specs.Prelude.{bit_and, bit_or, if◌then◌else◌, slice_index_or}
 use Rattle.std.proofs.lemmas.Bool.Decides.{nat_tests}
 use Rattle.bench_words.specs.Memory.{word_at}
-use Rattle.bench_words.specs.Bytes.{IsBytes}
 use Rattle.rig_types.specs.declared.rig.Unit.{Unit as RigUnit}
-use Rattle.host_map.specs.declared.TheConstants.{NOTASK}
-use Rattle.host_map.specs.Places.{table_at, tag_entry, IsCommandBlock}
+use Rattle.host_map.specs.Places.{table_at, tag_entry}
 use Rattle.scripts_ops.specs.declared.values.Address.TheVariants.{FromDsa}
 use Rattle.scripts_ops.specs.declared.values.Change.TheVariants as change
 use Rattle.scripts_ops.specs.declared.values.Condition.TheVariants as condition
-use Rattle.scripts_ops.specs.declared.values.Op.{Op}
 use Rattle.scripts_ops.specs.declared.values.Op.TheVariants as op
 use Rattle.scsi_words.specs.Phases.{phase_code}
 use Rattle.scsi_words.specs.declared.phases.kinds.Phase.{Phase as BusPhase}
 use Rattle.desk_law.specs.Desk.{no_unit}
 use Rattle.driver_script.specs.Script.{instruction}
 use Rattle.driver_script.specs.Moves.{data_move}
-use Rattle.chip_regs.specs.Bytes.{Dsa, holding, with_digit}
-use Rattle.chip_regs.specs.Registers.{byte_at, written, after_read, stop_with}
-use Rattle.chip_regs.specs.declared.registers.Cause.TheVariants.{Sir, Iid, Bf, Ma, Udc}
+use Rattle.driver_script.proofs.ScriptTests.{below}
+use Rattle.chip_regs.specs.Bytes.{Dsa, with_digit}
+use Rattle.chip_regs.specs.Registers.{byte_at, written, stop_with}
+use Rattle.chip_regs.specs.declared.registers.Cause.TheVariants.{Sir, Bf, Ma, Udc}
 use Rattle.chip_regs.specs.declared.registers.Regs.{Regs}
 use Rattle.chip_regs.proofs.Words.{wide_by_bytes}
 use Rattle.chip_step.specs.Blocks.{AsksAndMoves, BlockMoves, Moves, MovesAt, loaded as move_loaded}
@@ -39,41 +37,21 @@ use Rattle.world_law.specs.declared.reply.Reply.{Reply}
 use Rattle.world_law.specs.World.{World, live}
 use Rattle.world_law.specs.ChipSteps.{chip_of, stop_for, RunsChip}
 use Rattle.world_law.specs.declared.reply.Stop.TheVariants as stop
-use Rattle.word_owners.specs.Tickets.{Tickets, tickets_of, block_of, target_of}
+use Rattle.word_owners.specs.Tickets.{tickets_of, block_of, target_of}
 use Rattle.word_owners.specs.Points.{Point, about, At160, At168, At170, At178, At180, At188, At190, At198, At1A0, At1A0None, At460, At468, At470, At478, At480, At488, At490, At498, At4A0, At4A8, At4B0, OfTarget}
 use Rattle.word_owners.specs.Parts.{Counts}
 use Rattle.word_owners.specs.Works.{Works}
 use Rattle.word_owners.specs.Holds.{Spot, Holds, Running, NotData, Broken, AtPoint, Linked}
-use Rattle.word_owners.specs.Nexts.{IsNext, Leads, Either, Moved, To}
+use Rattle.word_owners.specs.Nexts.{IsNext, Leads, To}
 use Rattle.word_owners.proofs.PointGroups.{of_tags, StepsHold}
-use Rattle.word_owners.proofs.BlockMoves.{Filled, MovedSo, refused, broke, whole, moves_direct}
-use Rattle.word_owners.proofs.BusCalls.{Still, by_bool, linked-still, cleared, either, passes}
+use Rattle.word_owners.proofs.BlockMoves.{MovedSo, refused, broke, whole, moves_direct}
+use Rattle.word_owners.proofs.BusCalls.{by_bool, linked-still, cleared, either, passes}
 use Rattle.word_owners.proofs.BusSteps.{on-either}
-use Rattle.word_owners.proofs.ChipSteps.{Arrives, Turns, arrives, breaks, ended, jumped, leads, loaded, past, row, linked-con, stopped-for}
-use Rattle.word_owners.proofs.MessageMoves.{Sparing, sparing-msgin, moved-so, spared}
+use Rattle.word_owners.proofs.ChipSteps.{Turns, arrives, breaks, ended, jumped, leads, loaded, past, row, linked-con, stopped-for}
+use Rattle.word_owners.proofs.MessageMoves.{sparing-msgin, moved-so, spared}
 use Rattle.word_owners.proofs.Patches.{few}
 
 -- ---- tests of all bytes
-
-abbrev all_below : ℕ → (ℕ → Bool) → Bool
-all_below zero t = true
-all_below (suc n) t = t n && all_below n t
-
-both : (a b : Bool) → a && b ≡ true → (a ≡ true) × (b ≡ true)
-both true true h = (refl, refl)
-both true false h = absurd cc
-both false b h = absurd cc
-
-last : (n k : ℕ) → k < suc n → (k ≡ n) ⊎ (k < n)
-last n k h = grind arith
-
-below_or : (n k : ℕ) (t : ℕ → Bool) → (t n ≡ true) × (all_below n t ≡ true) → (k < n → t k ≡ true) → (k ≡ n) ⊎ (k < n) → t k ≡ true
-below_or n k t h rest (inl e) = ap t e ∙ h.0
-below_or n k t h rest (inr l) = rest l
-
-below : (n k : ℕ) (t : ℕ → Bool) → all_below n t ≡ true → k < n → t k ≡ true
-below zero k t h b = absurd (omega arith)
-below (suc n) k t h b = let all = both (t n) (all_below n t) h in below_or n k t all (λ l. below n k t all.1 l) (last n k b)
 
 same : (a b : ℕ) → nat_eq a b ≡ true → a ≡ b
 same a b h = grind (arith, nat_tests)

@@ -9,7 +9,8 @@ pub mod DataMoves
 pub mod Buffers
 pub mod Nexts
 pub mod Steps
-pub mod DriverSteps
+pub mod BenchSteps
 pub mod StopCauses
+pub mod Readings
 pub mod Laws
 pub mod Spaces

@@ -1,6 +1,7 @@
 //! Laws of the invariant. Each function does nothing; its contract is the law.
 
-ghost use Rattle.word_owners.specs.DriverSteps.{DriverHolds};
+ghost use Rattle.word_owners.specs.BenchSteps.{BenchStepsHold};
+ghost use Rattle.word_owners.specs.Readings.{RingsAreRead};
 ghost use Rattle.word_owners.specs.Laws.{FixHolds, FreeHolds, HoldsOpened, JobHolds, LinkHolds, MarkHolds, QueueHolds, ResetHolds, RestartHolds, SenseHolds, SignalHolds, SweepHolds, TakeHolds, UnlinkHolds};
 
 /// The invariant holds at the opening of a bench of at most 16 units: the chip stands at START, both rings are empty and
@@ -73,7 +74,14 @@ pub fn senses_hold()
     ensures { SenseHolds }
 {}
 
-/// Where the invariant holds at some spot, it holds at one after each step of the driver but Build that is enabled.
-pub fn driver_steps_hold()
-    ensures { DriverHolds }
+/// Where the invariant holds at some spot, it holds at one after each step of the bench but Build that is enabled, and each
+/// unit's target still answers selections exactly where the unit isn't absent: after the driver's steps, and after that of
+/// the chip for every answer of the bus.
+pub fn bench_steps_hold()
+    ensures { BenchStepsHold }
+{}
+
+/// Wherever the invariant holds, RINGP is a start slot, and a done slot that isn't idle has a ticket to take.
+pub fn rings_are_read()
+    ensures { RingsAreRead }
 {}

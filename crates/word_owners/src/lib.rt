@@ -10,7 +10,8 @@ pub use chip_laws::{
     pointers_stay_in_buffers, stops_are_handled,
 };
 pub use laws::{
-    aborts_hold, device_resets_hold, driver_steps_hold, fixes_hold, frees_hold, links_hold,
-    opening_holds, queues_hold, resets_hold, restarts_hold, senses_hold, sweeps_hold, takes_hold,
+    aborts_hold, bench_steps_hold, device_resets_hold, fixes_hold, frees_hold, links_hold,
+    opening_holds, queues_hold, resets_hold, restarts_hold, rings_are_read, senses_hold,
+    sweeps_hold, takes_hold,
 };
 pub use space_laws::space_is_owned;

@@ -1,4 +1,4 @@
--- All steps of the driver but Build, in one statement.
+-- All steps of the bench but Build, in one statement.
 use Rattle.std.specs.Prelude.{◌≡◌, ℕ, Bool, true, false, List}
 use Rattle.rig_types.specs.Works.{IsWork}
 use Rattle.rig_types.specs.declared.rig.Unit.{Unit as RigUnit}
@@ -19,13 +19,12 @@ pub record IsOwned (version : ℕ) (units : List RigUnit) (w : World) : Type 0 w
   pub holds : Holds version units spot counts w
   pub answering : AreAnswering units w.bus
 
-abbrev pub is_driven : Step → Bool
-is_driven (step.Build l) = false
-is_driven (step.Chip word) = false
-is_driven _ = true
+abbrev pub is_build : Step → Bool
+is_build (step.Build l) = true
+is_build _ = false
 
--- each of these steps, where it is enabled, keeps it
-abbrev pub DriverHolds : Type 0
-DriverHolds =
-    (g : BenchSetting) (version : ℕ) (units : List RigUnit) (w new : World) (caller : ℕ) (s : Step) (answer : Reply) → IsWork g.submitters g.acts → is_driven s ≡ true
+-- each step of the bench but Build, where it is enabled, keeps it: those of the driver, and that of the chip for every answer of the bus
+abbrev pub BenchStepsHold : Type 0
+BenchStepsHold =
+    (g : BenchSetting) (version : ℕ) (units : List RigUnit) (w new : World) (caller : ℕ) (s : Step) (answer : Reply) → IsWork g.submitters g.acts → is_build s ≡ false
     → Enabled g w caller s → Does g w caller s answer new → IsOwned version units w → IsOwned version units new
