@@ -3,5 +3,7 @@ pub mod ConnectedTurns
 pub mod CandidateCounts
 pub mod Selections
 pub mod Openings
+pub mod LogRooms
+pub mod BusRooms
 pub mod Resets
 pub mod BusSteps

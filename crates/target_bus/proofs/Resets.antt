@@ -1,10 +1,12 @@
 -- Every device changed in turn.
-use Rattle.std.proofs.Common.{◌≡◌, ◌<◌, ◌+◌, ◌∙◌, true, ℕ, zero, suc, List, [], ◌∷◌, length, map, slice_set, slice_index_or, false, refl, ap, arith}
+use Rattle.std.proofs.Common.{◌≡◌, ◌≢◌, ◌<◌, ◌+◌, ◌∙◌, ◌⊎◌, inl, inr, true, ℕ, zero, suc, List, [], ◌∷◌, length, map, slice_set, slice_index_or, false, refl, ap, sym, subst, arith}
 use Rattle.std.proofs.lemmas.List.{length-map}
+use Rattle.unit_law.proofs.Views.{same_or_not}
 use Rattle.bus_law.specs.Bus.{BusState, device_at, bus_reset, device_reset}
 use Rattle.bus_law.specs.Laws.{HasResetRoom}
 use Rattle.bus_law.proofs.OneConnected.{resets_connected}
 use Rattle.target_bus.specs.Fields.{IsHeldBus}
+use Rattle.target_bus.proofs.BusRooms.{read-any}
 
 -- the first n elements changed
 pub first_changed : {A : Type 0} → (A → A) → ℕ → List A → List A
@@ -43,6 +45,22 @@ step-more {A} f olds items n x y e i h l =
     let here : x ≡ slice_index_or olds n x = i ∙ ap (λ (xs : List A). slice_index_or xs n x) e ∙ first-at f n olds x in
     ap (λ (xs : List A). slice_set xs n y) e ∙ ap (λ (z : A). slice_set (first_changed f n olds) n z) (h ∙ ap f here) ∙ first-more f n olds x l
     ∙ ap (λ (k : ℕ). first_changed f k olds) (omega arith)
+
+-- what holds of the elements that were read so far
+pub read-first : {A : Type 0} (f : A → A) (olds items : List A) (n : ℕ) (x d : A) → items ≡ first_changed f n olds → x ≡ slice_index_or items n x → n < length olds → x ≡ slice_index_or olds n d
+read-first {A} f olds items n x d e i l = read-any olds n x d l (i ∙ ap (λ (xs : List A). slice_index_or xs n x) e ∙ first-at f n olds x)
+
+at-or-below : (n k : ℕ) → k < n + 1 → k ≢ n → k < n
+at-or-below n k l e = grind (arith, e)
+
+one-by : {A : Type 0} (P : A → Type 0) (olds : List A) (d : A) (n k : ℕ) (x : A) → ((j : ℕ) → j < n → P (slice_index_or olds j d)) → x ≡ slice_index_or olds n d → P x → k < n + 1 → (k ≡ n) ⊎ (k ≢ n)
+    → P (slice_index_or olds k d)
+one-by {A} P olds d n k x f e p l (inl same) = subst (λ (j : ℕ). P (slice_index_or olds j d)) (sym same) (subst P e p)
+one-by {A} P olds d n k x f e p l (inr other) = f k (at-or-below n k l other)
+
+pub one-more : {A : Type 0} (P : A → Type 0) (olds : List A) (d : A) (n : ℕ) → ((j : ℕ) → j < n → P (slice_index_or olds j d)) → {x : A} → x ≡ slice_index_or olds n d → P x
+    → (k : ℕ) → k < n + 1 → P (slice_index_or olds k d)
+one-more P olds d n f {x} e p k l = one-by P olds d n k x f e p l (same_or_not k n)
 
 pub reset-held : (n m : ℕ) (b : BusState) → IsHeldBus n b → ((id : ℕ) → HasResetRoom (device_at b id)) → m ≡ n → IsHeldBus m (bus_reset b)
 reset-held n m b h r e = record {

@@ -1,7 +1,7 @@
 //! The SCSI bus of a bench: the devices of all targets of a rig, with the lines of the bus.
 //!
-//! Each call does what the bus's definition says of it. Nothing but the opening takes memory, and no call looks through
-//! tasks.
+//! Each call does what the bus's definition says of it. Nothing but the opening and the room of logs takes memory, and no
+//! call looks through tasks.
 #![tactic(auto)]
 
 mod bus;
@@ -10,6 +10,7 @@ mod connecting;
 mod live_bus;
 mod opening;
 mod resetting;
+mod rooms;
 mod tickets;
 mod turns;
 
