@@ -3,3 +3,4 @@ pub mod Tasks
 pub mod Others
 pub mod IdleCalls
 pub mod WorkCalls
+pub mod Pointers

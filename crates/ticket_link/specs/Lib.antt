@@ -1,3 +1,4 @@
 pub mod Tags
 pub mod WorkCalls
+pub mod Pointers
 pub mod Laws

@@ -1,6 +1,7 @@
 //! Laws of tags and tasks. Each function does nothing; its contract is the law.
 
 ghost use Rattle.ticket_link.specs.Laws.{TagsNameOne, ConnectedIsItsTicket, WaitingAreTheirTickets, OneTargetMoves, IdleCallsRelink};
+ghost use Rattle.ticket_link.specs.Pointers.{PointersFollow};
 ghost use Rattle.ticket_link.specs.WorkCalls.{WorkCallsMove};
 
 /// Where each Build takes a tag that no live ticket of the unit has, a tag of a unit names at most one live ticket,
@@ -31,4 +32,10 @@ pub fn idle_calls_relink()
 /// move of the machine, which says what its ticket becomes.
 pub fn work_calls_move()
     ensures { WorkCallsMove }
+{}
+
+/// A data byte moves the position of its task on by one; SAVE DATA POINTER saves it, RESTORE POINTERS and leaving the bus go
+/// back to the saved one; nothing else moves either.
+pub fn pointers_follow()
+    ensures { PointersFollow }
 {}
