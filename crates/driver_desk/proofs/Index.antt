@@ -1,5 +1,5 @@
 -- The index of live tickets by block and by tag.
-use Rattle.std.proofs.Common.{arith, ◌≡◌, ℕ, ◌+◌, ◌-◌, ◌*◌, ◌/◌, ◌==◌, ◌<◌, ◌≤◌, Bool, true, false, ◌&&◌, nat_lt, cond, List, length, Option, Some, None, refl, sym, ap, subst, ◌∙◌, get_or, set}
+use Rattle.std.proofs.Common.{arith, ◌≡◌, ℕ, zero, suc, map, [], ◌∷◌, ◌+◌, ◌-◌, ◌*◌, ◌/◌, ◌==◌, ◌<◌, ◌≤◌, Bool, true, false, ◌&&◌, nat_lt, cond, List, length, Option, Some, None, refl, sym, ap, subst, ◌∙◌, get_or, set}
 use Rattle.std.proofs.lemmas.Bool.Decides.{nat_tests}
 use Rattle.std.specs.Prelude.{All, position, IsTrue, ◌↔◌}
 use Rattle.std.specs.List.{position_or_len}
@@ -13,6 +13,13 @@ use Rattle.desk_law.specs.Desk.{DeskState, no_ticket, ticket, lives, has_tag, ha
 use Rattle.rig_types.specs.declared.step.Line.{Line}
 use Rattle.desk_law.specs.declared.ticket.Piece.{Piece}
 use Rattle.driver_desk.specs.Kept.{most_tries, IsTicket, IsIndex, IsDesk}
+use Rattle.driver_desk.specs.Held.{core, IsHeld, IsKept}
+use Rattle.driver_desk.specs.declared.reporting.Room.{Room}
+use Rattle.rig_types.specs.declared.rig.Unit.{Unit as RigUnit}
+use Rattle.dma_buddy.specs.Regions.{Space}
+use Rattle.desk_law.specs.declared.stage.Stage.TheVariants.{Built, Freed}
+use Rattle.host_map.specs.declared.TheConstants.{START_RING}
+use Rattle.job_rings.specs.Rings.{IsSlot, next_slot}
 use Rattle.desk_law.specs.Taking.{taken_by}
 use Rattle.driver_desk.proofs.Stages.{tries_at_most}
 
@@ -50,6 +57,9 @@ index_stays by_block by_tag xs t k d h s = record {
   tag = λ u g few byte. h.tag u g few byte ∙ sym (position-set (has_tag u g) xs t k d (same-tag u g k (get_or xs t d) s));
 }
 
+abbrev made : Bool → (unit tag block : ℕ) → List Piece → Ticket
+made live unit tag block pieces = record no_ticket { unit = unit; tag = tag; block = block; pieces = pieces; stage = cond live Built Freed }
+
 ticket-stays : (units submitters retries : ℕ) (k old : Ticket) → IsTicket units submitters retries old → StaysAt k old → k.tries ≤ most_tries retries k.stage
     → IsTicket units submitters retries k
 ticket-stays units submitters retries k old is s tries = record {
@@ -60,11 +70,30 @@ ticket-stays units submitters retries k old is s tries = record {
   tries = tries;
 }
 
+core-same : (k old : Ticket) → StaysAt k old → core k ≡ core old
+core-same k old s =
+    ap (λ (l : Bool). made l k.unit k.tag k.block k.pieces) s.lives ∙ ap (λ (x : ℕ). made (lives old) x k.tag k.block k.pieces) s.unit
+    ∙ ap (λ (x : ℕ). made (lives old) old.unit x k.block k.pieces) s.tag ∙ ap (λ (x : ℕ). made (lives old) old.unit old.tag x k.pieces) s.block
+    ∙ ap (λ (ps : List Piece). made (lives old) old.unit old.tag old.block ps) s.pieces
+
+cores-same : (xs : List Ticket) (t : ℕ) (k d : Ticket) → core k ≡ core (get_or xs t d) → map core (set xs t k) ≡ map core xs
+cores-same [] zero k d e = refl
+cores-same [] (suc t) k d e = refl
+cores-same (x ∷ xs) zero k d e = ap (λ (c : Ticket). c ∷ map core xs) e
+cores-same (x ∷ xs) (suc t) k d e = ap (λ (cs : List Ticket). core x ∷ cs) (cores-same xs t k d e)
+
+pub kept_stays : (version : ℕ) (us : List RigUnit) (retries : ℕ) (by_block by_tag : List (Option ℕ)) (rooms : List (Option Room)) (counts : List ℕ) (space : Space) (xs : List Ticket) (t : ℕ) (k d : Ticket)
+    → IsKept version us retries by_block by_tag rooms counts space xs → StaysAt k (get_or xs t d) → IsKept version us retries by_block by_tag rooms counts space (set xs t k)
+kept_stays version us retries by_block by_tag rooms counts space xs t k d h s =
+    subst (λ (ys : List Ticket). IsHeld version us retries by_block by_tag rooms counts space ys) (sym (cores-same xs t k d (core-same k (get_or xs t d) s))) h
+
 -- the desk stays one
-pub stays : (units submitters retries put take callers : ℕ) (by_block by_tag : List (Option ℕ)) (xs : List Ticket) (t : ℕ) (k d : Ticket)
-    → IsDesk units submitters retries put take callers xs × IsIndex by_block by_tag xs → t < length xs → StaysAt k (get_or xs t d)
-    → k.tries ≤ most_tries retries k.stage → IsDesk units submitters retries put take callers (set xs t k) × IsIndex by_block by_tag (set xs t k)
-stays units submitters retries put take callers by_block by_tag xs t k d h there s tries = (
+pub stays : (units submitters retries put take callers : ℕ) (by_block by_tag : List (Option ℕ)) (version : ℕ) (us : List RigUnit) (rooms : List (Option Room)) (counts : List ℕ) (space : Space)
+    (xs : List Ticket) (t : ℕ) (k d : Ticket)
+    → IsDesk units submitters retries put take callers xs × IsIndex by_block by_tag xs × IsKept version us retries by_block by_tag rooms counts space xs → t < length xs → StaysAt k (get_or xs t d)
+    → k.tries ≤ most_tries retries k.stage
+    → IsDesk units submitters retries put take callers (set xs t k) × IsIndex by_block by_tag (set xs t k) × IsKept version us retries by_block by_tag rooms counts space (set xs t k)
+stays units submitters retries put take callers by_block by_tag version us rooms counts space xs t k d h there s tries = (
   record {
     few_units = h.0.few_units;
     few_retries = h.0.few_retries;
@@ -76,6 +105,7 @@ stays units submitters retries put take callers by_block by_tag xs t k d h there
         (ticket-stays units submitters retries k (get_or xs t d) (h.0.each_ticket t d there) s tries) h.0.each_ticket;
   },
   index_stays by_block by_tag xs t k d h.1 s,
+  kept_stays version us retries by_block by_tag rooms counts space xs t k d h.2 s,
 )
 
 -- a ticket was queued at most so often, whatever its stage
@@ -151,23 +181,40 @@ taken-tries retries false false true m old most left = most
 taken-tries retries false false false m old most left = most
 
 -- the desk stays one where the ticket becomes this one
-pub live_stays : (units submitters retries put take callers : ℕ) (by_block by_tag : List (Option ℕ)) (xs : List Ticket) (t : ℕ) (k old : Ticket)
-    → IsDesk units submitters retries put take callers xs × IsIndex by_block by_tag xs → t < length xs → old ≡ get_or xs t old → StaysAt k old
-    → (old.tries ≤ retries + 1 → k.tries ≤ most_tries retries k.stage) → IsDesk units submitters retries put take callers (set xs t k) × IsIndex by_block by_tag (set xs t k)
-live_stays units submitters retries put take callers by_block by_tag xs t k old h there e s tries =
+pub live_stays : (units submitters retries put take callers : ℕ) (by_block by_tag : List (Option ℕ)) (version : ℕ) (us : List RigUnit) (rooms : List (Option Room)) (counts : List ℕ) (space : Space)
+    (xs : List Ticket) (t : ℕ) (k old : Ticket)
+    → IsDesk units submitters retries put take callers xs × IsIndex by_block by_tag xs × IsKept version us retries by_block by_tag rooms counts space xs → t < length xs → old ≡ get_or xs t old → StaysAt k old
+    → (old.tries ≤ retries + 1 → k.tries ≤ most_tries retries k.stage)
+    → IsDesk units submitters retries put take callers (set xs t k) × IsIndex by_block by_tag (set xs t k) × IsKept version us retries by_block by_tag rooms counts space (set xs t k)
+live_stays units submitters retries put take callers by_block by_tag version us rooms counts space xs t k old h there e s tries =
     let most : (get_or xs t old).tries ≤ retries + 1 = tries_of units submitters retries xs t old h.0.each_ticket there in
-    stays units submitters retries put take callers by_block by_tag xs t k old h there (subst (λ (x : Ticket). StaysAt k x) e s)
+    stays units submitters retries put take callers by_block by_tag version us rooms counts space xs t k old h there (subst (λ (x : Ticket). StaysAt k x) e s)
     (tries (subst (λ (x : Ticket). x.tries ≤ retries + 1) (sym e) most))
 
-pub taken_stays : (units submitters retries put take callers : ℕ) (by_block by_tag : List (Option ℕ)) (xs : List Ticket) (t : ℕ) (k old : Ticket)
-    (sensing again check : Bool) (m : List ℕ)
-    → IsDesk units submitters retries put take callers xs × IsIndex by_block by_tag xs → t < length xs → old ≡ get_or xs t old → lives old ≡ true
+-- the same where the stage that the ticket had bounds its tries
+pub stays_by : (units submitters retries put take callers : ℕ) (by_block by_tag : List (Option ℕ)) (version : ℕ) (us : List RigUnit) (rooms : List (Option Room)) (counts : List ℕ) (space : Space)
+    (xs : List Ticket) (t : ℕ) (k old : Ticket)
+    → IsDesk units submitters retries put take callers xs × IsIndex by_block by_tag xs × IsKept version us retries by_block by_tag rooms counts space xs → t < length xs → old ≡ get_or xs t old → StaysAt k old
+    → (old.tries ≤ most_tries retries old.stage → k.tries ≤ most_tries retries k.stage)
+    → IsDesk units submitters retries put take callers (set xs t k) × IsIndex by_block by_tag (set xs t k) × IsKept version us retries by_block by_tag rooms counts space (set xs t k)
+stays_by units submitters retries put take callers by_block by_tag version us rooms counts space xs t k old h there e s tries =
+    let most : (get_or xs t old).tries ≤ most_tries retries (get_or xs t old).stage = (h.0.each_ticket t old there).tries in
+    stays units submitters retries put take callers by_block by_tag version us rooms counts space xs t k old h there (subst (λ (x : Ticket). StaysAt k x) e s)
+    (tries (subst (λ (x : Ticket). x.tries ≤ most_tries retries x.stage) (sym e) most))
+
+-- the driver's next slot is one of the ring
+pub next_is_slot : (slot next : ℕ) → IsSlot START_RING slot → next ≡ next_slot START_RING slot → IsSlot START_RING next
+next_is_slot slot next h e = subst (λ (n : ℕ). IsSlot START_RING n) (sym e) (record { from = omega arith; below = omega arith; aligned = omega (arith, h.from, h.aligned) })
+
+pub taken_stays : (units submitters retries put take callers : ℕ) (by_block by_tag : List (Option ℕ)) (version : ℕ) (us : List RigUnit) (rooms : List (Option Room)) (counts : List ℕ) (space : Space)
+    (xs : List Ticket) (t : ℕ) (k old : Ticket) (sensing again check : Bool) (m : List ℕ)
+    → IsDesk units submitters retries put take callers xs × IsIndex by_block by_tag xs × IsKept version us retries by_block by_tag rooms counts space xs → t < length xs → old ≡ get_or xs t old → lives old ≡ true
     → (again ≡ true → old.tries ≤ retries) → k ≡ taken_by sensing again check m old
-    → IsDesk units submitters retries put take callers (set xs t k) × IsIndex by_block by_tag (set xs t k)
-taken_stays units submitters retries put take callers by_block by_tag xs t k old sensing again check m h there e live left same =
+    → IsDesk units submitters retries put take callers (set xs t k) × IsIndex by_block by_tag (set xs t k) × IsKept version us retries by_block by_tag rooms counts space (set xs t k)
+taken_stays units submitters retries put take callers by_block by_tag version us rooms counts space xs t k old sensing again check m h there e live left same =
     let new = taken_by sensing again check m old in
-    subst (λ (x : Ticket). IsDesk units submitters retries put take callers (set xs t x) × IsIndex by_block by_tag (set xs t x)) (sym same)
-    (live_stays units submitters retries put take callers by_block by_tag xs t new old h there e (taken_keeps sensing again check m old live)
+    subst (λ (x : Ticket). IsDesk units submitters retries put take callers (set xs t x) × IsIndex by_block by_tag (set xs t x) × IsKept version us retries by_block by_tag rooms counts space (set xs t x)) (sym same)
+    (live_stays units submitters retries put take callers by_block by_tag version us rooms counts space xs t new old h there e (taken_keeps sensing again check m old live)
     (λ most. taken-tries retries sensing again check m old most left))
 
 -- ---- the ticket that a call sees

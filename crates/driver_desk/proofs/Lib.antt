@@ -1,6 +1,15 @@
-pub mod Index
-pub mod Opening
+pub mod Additions
+pub mod BuiltTicket
+pub mod Counting
 pub mod DataPointers
+pub mod Entering
+pub mod Freeing
+pub mod GivenBack
+pub mod Index
+pub mod Keys
+pub mod Least
+pub mod Opening
+pub mod Refusing
 pub mod Segments
 pub mod Slots
 pub mod Stages

@@ -1,5 +1,5 @@
 -- A desk that was just opened: all chunks are free, and no block or tag has a ticket.
-use Rattle.std.proofs.Common.{arith, ◌≡◌, ℕ, zero, suc, ◌+◌, ◌-◌, ◌*◌, ◌/◌, ◌%◌, ◌<◌, ◌≤◌, List, [], map, replicate, Option, None, refl, sym, ap, subst, inl, inr, ⊎_elim, lit<}
+use Rattle.std.proofs.Common.{arith, ◌≡◌, ℕ, zero, suc, ◌+◌, ◌-◌, ◌*◌, ◌/◌, ◌%◌, ◌<◌, ◌≤◌, List, [], length, get_or, map, replicate, Option, Some, None, refl, sym, ap, subst, inl, inr, ⊎_elim, lit<, lit≤}
 use Rattle.std.proofs.lemmas.Bool.{cases_lt}
 use Rattle.std.proofs.lemmas.List.{length-replicate, get_or-replicate}
 use Rattle.std.specs.List.{range_with_len}
@@ -7,8 +7,14 @@ use Rattle.dma_buddy.specs.declared.buddies.Chunk.{Chunk}
 use Rattle.dma_buddy.specs.Regions.{Space, IsAmong, IsChunkOf, IsListed, IsRegion, IsWhole}
 use Rattle.dma_buddy.proofs.Sets.{same-members, same-space}
 use Rattle.dma_buddy.proofs.Sizes.{same-chunk}
+use Rattle.desk_law.specs.declared.ticket.Ticket.{Ticket}
 use Rattle.desk_law.specs.Desk.{whole_chunk}
+use Rattle.rig_types.specs.declared.rig.Unit.{Unit as RigUnit}
+use Rattle.rig_types.specs.Ranges.{IsRig}
+use Rattle.dma_buddy.proofs.Held.{none-out}
+use Rattle.driver_desk.specs.declared.reporting.Room.{Room}
 use Rattle.driver_desk.specs.Kept.{IsIndex, IsDesk}
+use Rattle.driver_desk.specs.Held.{Keyed, block_key, tag_key, IsCounted, IsKept}
 
 -- ---- the chunks
 
@@ -75,6 +81,60 @@ index_of_none = record {
   tags = length-replicate {A = Option ℕ} 4096 None;
   block = λ b below. get_or-replicate 256 b None None below;
   tag = λ u g few byte. get_or-replicate 4096 (256 * u + g) None None (omega (arith, few, byte));
+}
+
+-- ---- what the desk keeps
+
+none-here : (n a i : ℕ) → get_or (replicate n None) a None ≡ Some i → ⊥
+none-here zero a i e = cc
+none-here (suc n) zero i e = cc
+none-here (suc n) (suc a) i e = none-here n a i e
+
+keyed-none : (size : ℕ) (key : Ticket → ℕ) → Keyed size key (replicate size None) []
+keyed-none size key = record {
+  count = length-replicate {A = Option ℕ} size None;
+  within = λ i low l. absurd (omega (arith, low));
+  found = λ i low l. absurd (omega (arith, low));
+  only = λ a i e. absurd (none-here size a i e);
+}
+
+counts-here : (n u : ℕ) → get_or (replicate n zero) u zero ≡ zero
+counts-here zero u = refl
+counts-here (suc n) zero = refl
+counts-here (suc n) (suc u) = counts-here n u
+
+counted-none : (us : List RigUnit) → IsCounted us (replicate (length us) 0) []
+counted-none us = record {
+  units = length-replicate {A = ℕ} (length us) 0;
+  count = λ u low. counts-here (length us) u;
+  few = λ u low. omega arith;
+}
+
+pub kept_of_none : (version : ℕ) (us : List RigUnit) (retries steps : ℕ) (s : Space) → IsRig version us retries steps → s.base ≡ 0x200000 → s.units ≡ 32
+    → IsKept version us retries (replicate 256 None) (replicate 4096 None) (replicate 256 None) (replicate (length us) 0) s []
+kept_of_none version us retries steps s r base units = record {
+  rig = record {
+    first_version = r.first_version;
+    last_version = r.last_version;
+    some_units = r.some_units;
+    few_units = r.few_units;
+    in_range = r.in_range;
+    agree = r.agree;
+    all_depths = r.all_depths;
+    few_retries = r.few_retries;
+    some_steps = lit≤ tt;
+    few_steps = lit≤ tt;
+  };
+  blocks = keyed-none 256 block_key;
+  tags = keyed-none 4096 tag_key;
+  bytes = λ i d low. absurd (omega (arith, low));
+  buffers = λ i d low. absurd (omega (arith, low));
+  places = length-replicate {A = Option Room} 256 None;
+  reports = λ i low l. absurd (omega (arith, low));
+  counted = counted-none us;
+  base = base;
+  chunks = units;
+  out = none-out s;
 }
 
 -- ---- the rest

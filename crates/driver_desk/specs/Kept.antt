@@ -1,4 +1,4 @@
--- What is true of the desk's own fields at all times (own).
+-- What is true of the desk's own fields at all times (own). Lemmas speak of it; no public contract rests on it.
 use Rattle.std.specs.Prelude.{◌≡◌, ℕ, ◌+◌, ◌*◌, ◌<◌, ◌≤◌, List, length, All, Option, None, position, slice_index_or, sum_by}
 use Rattle.host_map.specs.declared.TheConstants.{START_RING, DONE_RING}
 use Rattle.host_map.specs.Places.{IsCommandBlock, block_at}

@@ -1,29 +1,41 @@
 //! The desk.
 
-ghost use Rattle.std.specs.Prelude.{◌≡◌, ◌<◌, ◌+◌, ◌^◌, ◌==◌, ℕ, length, true, false, None, replicate, IfOk, IsSome};
+ghost use Rattle.std.specs.Prelude.{◌≡◌, ◌<◌, ◌≤◌, ◌+◌, ◌^◌, ◌==◌, ◌++◌, ℕ, List, map, length, true, false, Some, None, replicate, slice_get, IfOk, IfSome, IsSome, MatchOption, MatchResult};
 ghost use Rattle.std.specs.List.{list_any};
 ghost use Rattle.bench_words.specs.Memory.{word_at};
 ghost use Rattle.host_map.specs.declared.TheConstants.{RINGP, START_RING, DONE_RING};
 ghost use Rattle.host_map.specs.Places.{IsCommandBlock};
 ghost use Rattle.job_rings.specs.Rings.{IsSlot, next_slot};
-ghost use Rattle.desk_law.specs.Desk.{desk_opened, ticket, with_ticket, lives, is_rogue, reaper, due, paid, owed, ticket_of, ticket_at};
+ghost use Rattle.desk_law.specs.Desk.{desk_opened, ticket, with_ticket, lives, live_count, is_rogue, reaper, due, paid, owed, ticket_of, ticket_at};
 ghost use Rattle.desk_law.specs.Rings.{waiting, passed, done_ticket};
-ghost use Rattle.desk_law.specs.Calls.{links, link_memory, queues, queue_memory, queue_caller, signalled, senses, sense_memory, unlinks, unlink_memory, ends};
+ghost use Rattle.desk_law.specs.Calls.{links, link_memory, queues, queue_memory, queue_caller, signalled, senses, sense_memory, unlinks, unlink_memory, ends, chunks_of, Frees};
+ghost use Rattle.unit_law.specs.Request.{plain};
+ghost use Rattle.desk_law.specs.Refusals.{kind_of, is_full, Refuses};
+ghost use Rattle.desk_law.specs.Building.{free_block, free_tag, new_ticket, desk_built, memory_built, Builds};
+ghost use Rattle.dma_buddy.specs.Regions.{Space, IsRegion, AreOut, TakesAll, RefusesAt};
+ghost use Rattle.driver_desk.specs.Kept.{total};
+ghost use Rattle.driver_desk.specs.Held.{core, held};
+ghost use Rattle.desk_law.specs.Reporting.{report_at};
 ghost use Rattle.desk_law.specs.Taking.{is_again, is_check, takes, take_memory, taken};
-ghost use Rattle.desk_law.specs.declared.stage.Stage.TheVariants.{Built, Check};
-ghost use Rattle.driver_desk.specs.Conditions.{MayQueue, MayEnd, IsEnded, next_done, answer_of};
+ghost use Rattle.desk_law.specs.declared.stage.Stage.TheVariants.{Built, Check, Unlinked};
+ghost use Rattle.driver_desk.specs.Conditions.{MayQueue, MayEnd, IsEnded, FaultOf, AreFor, step_of, next_done, answer_of};
 
 use crate::blocks::{begin_anew, has_status, is_marked, settle_ticket};
+use crate::building::{NewTicket, first_free, new_ticket, one_less, one_more, write_ticket};
+use crate::fault::BuildFault;
+use crate::giving::{give_all, put_back};
+use crate::refusals::kind_of;
+use crate::reporting::{Room, report_of};
 use bench_words::Words;
 use chip_regs::Regs;
-use desk_law::{Stage, Taken, Ticket};
-use dma_buddy::Region;
+use desk_law::{Refused, Stage, Taken, Ticket};
+use dma_buddy::{Chunk, Chunks, Region};
 use host_map::{
-    BLOCK_BYTES, BLOCKS, BUFFERS, CHUNK_COUNT, DONE_RING, FRONT, RINGP, START_RING,
+    BLOCK_BYTES, BLOCKS, BUFFERS, CHUNK_COUNT, DONE_RING, FRONT, RINGP, START_RING, block_at,
     is_command_block,
 };
 use job_rings::{clear_done, put_start};
-use rig_types::{Line, Outcome, Rig, Unit, Work};
+use rig_types::{Line, Outcome, Report, Request, Rig, Unit, Work};
 use sense_job::turn;
 use std::alloc::{AllocError, Global};
 use std::marker::Model;
@@ -39,7 +51,8 @@ const QUEUE_FULL: u8 = 0x28;
 /// The tickets of a bench, the positions in both rings, the buffer region and the signals that are due. Contracts see
 /// it as the desk's state of `desk_law`.
 ///
-/// Beside the tickets it keeps for each block, and for each tag of each unit, the live ticket that has it.
+/// Beside the tickets it keeps for each block, and for each tag of each unit, the live ticket that has it, and by block
+/// the memory of its report.
 #[derive(Drop)]
 pub struct Desk {
     version: u8,
@@ -50,6 +63,8 @@ pub struct Desk {
     tickets: Vec<Ticket>,
     by_block: Vec<Option<u32>>,
     by_tag: Vec<Option<u32>>,
+    rooms: Vec<Option<Room>>,
+    live_counts: Vec<u16>,
     put: u32,
     take: u32,
     region: Region,
@@ -60,6 +75,7 @@ impl Model for Desk {
     ghost use Rattle.std.specs.Prelude.{length};
     ghost use Rattle.desk_law.specs.Desk.{DeskState};
     ghost use Rattle.driver_desk.specs.Kept.{IsDesk, IsIndex};
+    ghost use Rattle.driver_desk.specs.Held.{IsKept};
 
     ghost Value = { DeskState };
 
@@ -77,7 +93,16 @@ impl Model for Desk {
     } };
 
     ghost invariant = { λ d. IsDesk (length d.units.items) d.submitters d.retries d.put d.take (length d.due.items) d.tickets.items
-        × IsIndex d.by_block.items d.by_tag.items d.tickets.items };
+        × IsIndex d.by_block.items d.by_tag.items d.tickets.items
+        × IsKept d.version d.units.items d.retries d.by_block.items d.by_tag.items d.rooms.items d.live_counts.items d.region d.tickets.items };
+}
+
+/// No live ticket of so many units.
+fn no_counts(alloc: Global, units: usize) -> Result<Vec<u16>, AllocError>
+    ensures { IfOk result (λ v. v.items ≡ replicate units 0) }
+{
+    let counts = vec![in alloc; 0; units]?;
+    Ok(counts)
 }
 
 /// So many places without a ticket.
@@ -89,6 +114,17 @@ fn no_tickets(alloc: Global, places: u32) -> Result<Vec<Option<u32>>, AllocError
         held.push(None)?;
     }
     Ok(held)
+}
+
+/// No memory of reports, for each block.
+fn rooms(alloc: Global) -> Result<Vec<Option<Room>>, AllocError>
+    ensures { IfOk result (λ v. v.items ≡ replicate 256 None) }
+{
+    let mut rooms = Vec::with_capacity(alloc, 256)?;
+    for _ in 0..256u32 {
+        rooms.push(None)?;
+    }
+    Ok(rooms)
 }
 
 /// The start slot behind a slot.
@@ -116,6 +152,8 @@ impl Desk {
             tickets: Vec::new(alloc),
             by_block: no_tickets(alloc, 256)?,
             by_tag: no_tickets(alloc, 4096)?,
+            rooms: rooms(alloc)?,
+            live_counts: no_counts(alloc, rig.units.as_slice().len())?,
             put: START_RING,
             take: DONE_RING,
             region: Region::new(alloc, BUFFERS, CHUNK_COUNT)?,
@@ -211,6 +249,17 @@ impl Desk {
         self.take
     }
 
+    /// The chunk of a ticket's segment `j`, counted from 0. The ticket was built and has that segment.
+    #[tactic(auto, using(crate::proofs::GivenBack::chunk_at))]
+    pub fn chunk(&self, t: u32, j: u32) -> Chunk
+        requires there { t < length self.now.tickets }
+        requires segment { j < length (ticket self.now t).pieces }
+        ensures { slice_get (chunks_of (ticket self.now t)) j ≡ Some result }
+    {
+        let piece = self.tickets[t as usize].pieces.as_slice()[j as usize];
+        piece.chunk
+    }
+
     /// How many signals of a caller are due.
     pub fn due(&self, caller: u32) -> u32
         requires { caller < length self.now.due }
@@ -275,8 +324,180 @@ impl Desk {
         found
     }
 
+    /// How many tickets of a unit live.
+    #[tactic(auto, using(crate::proofs::Counting::counted_live))]
+    fn live_count(&self, unit: u8) -> u16
+        requires { unit < length self.now.units }
+        ensures { result ≡ live_count self.now unit }
+    {
+        self.live_counts[unit as usize]
+    }
+
+    /// Why a request is refused, but for want of chunks.
+    fn refusal(&self, r: &Request) -> Option<Refused>
+        ensures { MatchOption result
+            ((kind_of self.now.units (plain r.now) ≡ None) × (is_full self.now r.now.unit ≡ false))
+            (λ a. Refuses self.now (plain r.now) a) }
+    {
+        if let Some(kind) = kind_of(self.units.as_slice(), r) {
+            return Some(Refused::BadRequest(kind));
+        }
+        let depth = self.units[r.unit as usize].depth;
+        if self.live_count(r.unit) >= depth {
+            return Some(Refused::LunFull { depth });
+        }
+        None
+    }
+
+    /// Takes the chunks of a request, all or none. Err holds the first length for which none is free.
+    fn take_chunks(&mut self, r: &Request) -> Result<Chunks, u32>
+        requires sound { kind_of self.old.units (plain r.now) ≡ None }
+        ensures taken { MatchResult result
+            (λ cs. TakesAll self.old.space r.now.segments cs self.new.space × AreFor self.new cs r.now.segments
+            × (self.new ≡ record self.old { space = self.new.space }))
+            (λ len. (self.new ≡ self.old) × RefusesAt self.old.space r.now.segments len) }
+        ensures region { IsRegion self.old.space }
+    {
+        self.region.take_all(r.segments.as_slice())
+    }
+
+    /// Gives chunks back that were taken last and belong to no ticket.
+    fn give_back(&mut self, chunks: &Chunks)
+        requires out { AreOut self.old.space (held (map core self.old.tickets) ++ chunks.now) }
+        ensures { (s : Space) (lens : List ℕ) → IsRegion s → TakesAll s lens chunks.now self.old.space → self.new ≡ record self.old { space = s } }
+    {
+        put_back(&mut self.region, chunks.as_slice(), 0);
+    }
+
+    /// The least block that no live ticket has. There is one, since a unit isn't full.
+    fn free_block(&self, unit: u8) -> u32
+        requires unit { unit < length self.now.units }
+        requires some { is_full self.now unit ≡ false }
+        ensures least { result ≡ free_block self.now }
+        ensures place { IsCommandBlock result }
+        ensures free { ticket_at self.now result ≡ None }
+    {
+        match first_free(self.by_block.as_slice(), 0, 1) {
+            Some(n) => block_at(n as u32),
+            None => unreachable!(),
+        }
+    }
+
+    /// The distance of two tags: in version 1 they are multiples of 4.
+    fn tag_step(&self) -> usize
+        ensures is { result ≡ step_of self.now.version }
+        ensures some { 0 < result }
+    {
+        if self.version == 2 { 1 } else { 4 }
+    }
+
+    /// The least tag of a unit that no live ticket of it has. There is one, since the unit isn't full.
+    fn free_tag(&self, unit: u8) -> u8
+        requires unit { unit < length self.now.units }
+        requires some { is_full self.now unit ≡ false }
+        ensures least { result ≡ free_tag self.now unit }
+        ensures free { ticket_of self.now unit result ≡ None }
+    {
+        let first = 256 * unit as usize;
+        match first_free(self.by_tag.as_slice(), first, self.tag_step()) {
+            Some(tag) => tag as u8,
+            None => unreachable!(),
+        }
+    }
+
+    /// The ticket of an accepted request with these chunks, and the memory of its report.
+    fn new_ticket(&self, line: Line, r: &Request, chunks: &Chunks) -> Result<NewTicket, AllocError>
+        requires sound { kind_of self.now.units (plain r.now) ≡ None }
+        requires some { is_full self.now r.now.unit ≡ false }
+        ensures ticket { IfOk result (λ n. n.ticket ≡ new_ticket self.now line (plain r.now) chunks.now) }
+        ensures room { IfOk result (λ n. (length n.room.bytes.items ≡ length r.now.bytes) × (length n.room.sense.items ≡ 18)) }
+        ensures place { IfOk result (λ n. IsCommandBlock n.ticket.block) }
+        ensures free { IfOk result (λ n. (ticket_at self.now n.ticket.block ≡ None) × (ticket_of self.now r.now.unit n.ticket.tag ≡ None) × (n.ticket.tag < 256)) }
+    {
+        let block = self.free_block(r.unit);
+        let tag = self.free_tag(r.unit);
+        new_ticket(
+            *self.tickets.allocator(),
+            line,
+            r,
+            tag,
+            block,
+            chunks.as_slice(),
+        )
+    }
+
+    /// Enters the ticket of an accepted request with these chunks, and tells its number. Its one error is want of memory.
+    fn enter(&mut self, line: Line, r: &Request, chunks: &Chunks) -> Result<u32, AllocError>
+        requires line { line.submitter < self.old.submitters }
+        requires few { length self.old.tickets + 1 < 2 ^ 32 }
+        requires sound { kind_of self.old.units (plain r.now) ≡ None }
+        requires some { is_full self.old r.now.unit ≡ false }
+        requires chunks { AreFor self.old chunks.now r.now.segments }
+        ensures { MatchResult result
+            (λ t. (t ≡ length self.old.tickets) × (self.new ≡ desk_built self.old (new_ticket self.old line (plain r.now) chunks.now)))
+            (λ _. self.new ≡ self.old) }
+    {
+        let NewTicket { ticket, room } = self.new_ticket(line, r, chunks)?;
+        let number = self.ticket_count();
+        let unit = ticket.unit;
+        let place = ((ticket.block - BLOCKS) / BLOCK_BYTES) as usize;
+        let key = 256 * unit as usize + ticket.tag as usize;
+        self.tickets.push(ticket)?;
+        self.by_block[place] = Some(number);
+        self.by_tag[key] = Some(number);
+        self.rooms[place] = Some(room);
+        one_more(&mut self.live_counts, unit);
+        Ok(number)
+    }
+
+    /// Writes the block of a live ticket and the bytes that were submitted.
+    fn write(&self, words: &mut Words, t: u32, r: &Request)
+        requires memory { length words.old ≡ 0x400000 }
+        requires there { t < length self.now.tickets }
+        requires lives { lives (ticket self.now t) ≡ true }
+        requires cdb { length r.now.cdb ≤ 16 }
+        requires lengths { total (ticket self.now t).pieces ≡ length r.now.bytes }
+        ensures memory { words.new ≡ memory_built self.now words.old (ticket self.now t) (plain r.now) }
+        ensures size { length words.new ≡ length words.old }
+    {
+        let k = &self.tickets[t as usize];
+        write_ticket(words, &self.units[k.unit as usize], k, r);
+    }
+
+    /// Builds the ticket of a request: it has the least free block and the least free tag of its unit, and a chunk for
+    /// each segment, all or none. Its block is written whole, and the submitted bytes into its buffer. After any fault
+    /// the desk and memory are as before. The line is one of the work's.
+    pub fn build(
+        &mut self,
+        words: &mut Words,
+        line: Line,
+        request: &Request,
+    ) -> Result<u32, BuildFault>
+        requires memory { length words.old ≡ 0x400000 }
+        requires line { line.submitter < self.old.submitters }
+        requires few { length self.old.tickets + 1 < 2 ^ 32 }
+        ensures built { MatchResult result
+            (λ t. Builds self.old words.old line (plain request.now) t self.new words.new)
+            (λ f. (self.new ≡ self.old) × (words.new ≡ words.old) × FaultOf self.old (plain request.now) f) }
+        ensures size { length words.new ≡ length words.old }
+    {
+        if let Some(reason) = self.refusal(request) {
+            return Err(BuildFault::Refused(reason));
+        }
+        let chunks = match self.take_chunks(request) {
+            Ok(chunks) => chunks,
+            Err(len) => return Err(BuildFault::Refused(Refused::RegionFull { len })),
+        };
+        let Ok(number) = self.enter(line, request, &chunks) else {
+            self.give_back(&chunks);
+            return Err(BuildFault::OutOfMemory);
+        };
+        self.write(words, number, request);
+        Ok(number)
+    }
+
     /// Enters the block of a built ticket under its tag.
-    #[tactic(auto, using(crate::proofs::Index::index_stays))]
+    #[tactic(auto, using(crate::proofs::Index::index_stays, crate::proofs::Index::kept_stays))]
     pub fn link(&mut self, words: &mut Words, t: u32)
         requires memory { length words.old ≡ 0x400000 }
         requires there { t < length self.old.tickets }
@@ -324,7 +545,7 @@ impl Desk {
 
     /// Puts the block of a ticket into the start ring, and makes a signal due: of its submitter after Link, of the
     /// reaper where it was refused. A block that was refused begins anew.
-    #[tactic(auto, using(crate::proofs::Index::index_stays, crate::proofs::Stages::queueable_lives, crate::proofs::Stages::tries_before_queue))]
+    #[tactic(auto, using(crate::proofs::Index::index_stays, crate::proofs::Index::kept_stays, crate::proofs::Stages::queueable_lives, crate::proofs::Stages::tries_before_queue))]
     pub fn queue(&mut self, words: &mut Words, t: u32)
         requires memory { length words.old ≡ 0x400000 }
         requires there { t < length self.old.tickets }
@@ -348,7 +569,7 @@ impl Desk {
 
     /// Turns the block of a ticket in stage Check into a REQUEST SENSE and puts it before the start ring. A signal of
     /// the reaper becomes due.
-    #[tactic(auto, using(crate::proofs::Index::index_stays, crate::proofs::Stages::tries_at_most))]
+    #[tactic(auto, using(crate::proofs::Index::index_stays, crate::proofs::Index::kept_stays, crate::proofs::Stages::tries_at_most))]
     pub fn sense(&mut self, words: &mut Words, t: u32)
         requires memory { length words.old ≡ 0x400000 }
         requires there { t < length self.old.tickets }
@@ -444,6 +665,30 @@ impl Desk {
         let k = &mut self.tickets[t as usize];
         unlink(words, k.unit, k.tag);
         k.stage = Stage::Unlinked;
+    }
+
+    /// Frees a ticket that was unlinked, and makes its report. Its chunks go back in their order, and its block and its
+    /// tag are free again. Memory stays.
+    pub fn free(&mut self, words: &Words, t: u32) -> Report
+        requires memory { length words.now ≡ 0x400000 }
+        requires there { t < length self.old.tickets }
+        requires unlinked { (ticket self.old t).stage ≡ Unlinked }
+        ensures desk { Frees self.old t self.new }
+        ensures report { result ≡ report_at self.old words.now t }
+    {
+        let k = &mut self.tickets[t as usize];
+        let place = ((k.block - BLOCKS) / BLOCK_BYTES) as usize;
+        let room = match self.rooms[place].take() {
+            Some(room) => room,
+            None => unreachable!(),
+        };
+        let report = report_of(words, t, k, room);
+        give_all(&mut self.region, k.pieces.as_slice());
+        self.by_block[place] = None;
+        self.by_tag[256 * k.unit as usize + k.tag as usize] = None;
+        one_less(&mut self.live_counts, k.unit);
+        k.stage = Stage::Freed;
+        report
     }
 
     /// Ends a ticket that a reset has swept: it is Queued or Sensing.

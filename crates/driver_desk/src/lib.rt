@@ -3,7 +3,12 @@
 #![tactic(auto)]
 
 mod blocks;
+mod building;
 mod desk;
+mod fault;
+mod giving;
+mod refusals;
 mod reporting;
 
 pub use desk::Desk;
+pub use fault::BuildFault;

@@ -19,4 +19,4 @@ invariant_of-self c =
     subst (λ (k : Ticket). k.tries ≤ c.self.inside.retries) (sym was ∙ is)
     (subst (λ (d : DeskState). read.tries ≤ d.retries) (sym c.self.view_is)
     (tries_left c.args.self.now c.args.words.now read (sym c.is_again-again.ensures ∙ again))) in
-    taken_stays _ _ _ _ _ _ _ _ _ c.args.t _ old _ _ _ _ c.self.invariant there c.index_mut-k.ensures.value live left c.settle_ticket.ensures.ticket
+    taken_stays _ _ _ _ _ _ _ _ _ _ _ _ _ _ c.args.t _ old _ _ _ _ c.self.invariant there c.index_mut-k.ensures.value live left c.settle_ticket.ensures.ticket

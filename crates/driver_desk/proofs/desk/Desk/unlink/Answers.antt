@@ -13,5 +13,5 @@ invariant_of-self c =
     let there : c.args.t < length c.self.inside.tickets.items = search rules in
     let is = seen c.args.self.now c.self.inside.tickets.items c.args.t old (ap (λ (d : DeskState). d.tickets) c.self.view_is) there c.index_mut-k.ensures.value in
     let live : is_freed old.stage ≡ false = ended_lives old.stage (subst (λ (k : Ticket). IsEnded k.stage) is c.requires.ended) in
-    live_stays _ _ _ _ _ _ _ _ _ c.args.t _ old c.self.invariant there c.index_mut-k.ensures.value
+    live_stays _ _ _ _ _ _ _ _ _ _ _ _ _ _ c.args.t _ old c.self.invariant there c.index_mut-k.ensures.value
     (record { line = refl; pieces = refl; unit = refl; tag = refl; block = refl; lives = sym (ap not live) }) (λ most. most)
