@@ -48,3 +48,4 @@ pub mod StopCauses
 pub mod Spaces
 pub mod FreedSpaces
 pub mod Readings
+pub mod BuiltBlocks

@@ -14,3 +14,4 @@ pub mod StopCauses
 pub mod Readings
 pub mod Laws
 pub mod Spaces
+pub mod BuiltBlocks

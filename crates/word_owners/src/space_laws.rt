@@ -1,5 +1,6 @@
-//! Laws of the buffer region. Each function does nothing; its contract is the law.
+//! Laws of what Build takes and writes. Each function does nothing; its contract is the law.
 
+ghost use Rattle.word_owners.specs.BuiltBlocks.{BlockBuilt};
 ghost use Rattle.word_owners.specs.Spaces.{BuffersOwned, BuildOwns, FreeOwns, OpeningOwns, StaysOwned};
 
 /// Live tickets own parts of the buffer region: each piece of a buffer lies in a chunk that is out of the desk's space, and
@@ -12,4 +13,10 @@ pub fn space_is_owned()
     ensures free { FreeOwns }
     ensures others { StaysOwned }
     ensures buffers { BuffersOwned }
+{}
+
+/// The block that Build writes is one that the invariant asks for, where the ticket has a command block and at most 16
+/// pieces, none of them empty: it isn't started, its GATE is BADTASK, and both data pointers denote the whole buffer.
+pub fn block_is_built()
+    ensures { BlockBuilt }
 {}
