@@ -1,12 +1,12 @@
--- One bit of a list of words that is set, cleared, tested, or the least.
-use Rattle.std.proofs.Common.{◌≡◌, ◌≢◌, ℕ, ◌+◌, ◌*◌, ◌/◌, ◌%◌, ◌^◌, ◌<◌, ◌≤◌, ◌⊎◌, false, eqb, List, length, get_or, set, sym, ap, ◌∙◌, inl, inr, ⊎_elim, arith, get_or-set_same, get_or-set_other}
+-- One bit of a list of words that is set, cleared or tested.
+use Rattle.std.proofs.Common.{◌≡◌, ◌≢◌, ℕ, ◌*◌, ◌/◌, ◌%◌, ◌^◌, ◌<◌, ◌⊎◌, false, eqb, List, length, get_or, set, sym, ap, ◌∙◌, inl, inr, ⊎_elim, arith, get_or-set_same, get_or-set_other}
 use Rattle.std.specs.Prelude.{bit_and, bit_or, not}
-use Rattle.std.specs.Int.{bit_at, bit_not, w64, trailing_zeros}
-use Rattle.std.proofs.lemmas.Bool.{cases_eq, cases_lt, eq-eqb, ne_eqb}
-use Rattle.std.proofs.lemmas.Nat.Bits.{bit_at_set_same, bit_at_set_other, bit_at_clear_same, bit_at_clear_other, bit_at-zero, bit_at-lt, bit_at-trailing_zeros, and_pow}
+use Rattle.std.specs.Int.{bit_at, bit_not, w64}
+use Rattle.std.proofs.lemmas.Bool.{cases_eq, eq-eqb, ne_eqb}
+use Rattle.std.proofs.lemmas.Nat.Bits.{bit_at_set_same, bit_at_set_other, bit_at_clear_same, bit_at_clear_other, bit_at-zero, bit_at-lt, and_pow}
 use Rattle.std.proofs.lemmas.Nat.{one_shl, pow_pos}
 use Rattle.byte_set.specs.Bits.{bit_in, holds}
-use Rattle.byte_set.specs.Sets.{IsEmpty, Adds, Removes, IsLeast}
+use Rattle.byte_set.specs.Sets.{Adds, Removes}
 
 rest_below : (n : ℕ) → n % 64 < 64
 rest_below n = omega arith
@@ -64,31 +64,7 @@ bit_test x k below =
     ap not (ne_eqb _ 0 (λ z. omega (arith, pow_pos k, some, z))) ∙ sym (eq-eqb _ 1 o))
     (bit_is x k)
 
--- ---- the least bit
+-- ---- a word of 0
 
 pub no_word : (ws : List ℕ) (n : ℕ) → get_or ws (n / 64) 0 ≡ 0 → holds ws n ≡ false
 no_word ws n z = ne_eqb _ 1 (λ one. omega (arith, one, ap (λ (v : ℕ). bit_at v (n % 64)) z ∙ bit_at-zero (n % 64)))
-
-pub empty_words : (ws : List ℕ) → ((w : ℕ) → get_or ws w 0 ≡ 0) → IsEmpty (holds ws)
-empty_words ws zero n = no_word ws n (zero (n / 64))
-
-pub least_bit : (ws : List ℕ) (w x : ℕ) → x ≡ get_or ws w 0 → 0 < x → x < 2 ^ 64 → ((j : ℕ) → j < w → get_or ws j 0 ≡ 0)
-    → IsLeast (holds ws) (64 * w + trailing_zeros w64 x)
-least_bit ws w x e some small before =
-    let tz : (trailing_zeros w64 x < 64) × (bit_at x (trailing_zeros w64 x) ≡ 1) × ((i : ℕ) → i < trailing_zeros w64 x → bit_at x i ≡ 0) = bit_at-trailing_zeros w64 x some small in
-    let lt : trailing_zeros w64 x < 64 = tz.0 in
-    let quotient : (64 * w + trailing_zeros w64 x) / 64 ≡ w = omega arith in
-    let rest : (64 * w + trailing_zeros w64 x) % 64 ≡ trailing_zeros w64 x = omega arith in
-    record {
-      one = eq-eqb _ 1 (ap (λ k. bit_at (get_or ws k 0) ((64 * w + trailing_zeros w64 x) % 64)) quotient ∙ ap (λ k. bit_at (get_or ws w 0) k) rest
-          ∙ ap (λ v. bit_at v (trailing_zeros w64 x)) (sym e) ∙ tz.1);
-      below = λ j less. ⊎_elim
-          (λ (lower : j / 64 < w). no_word ws j (before (j / 64) lower))
-          (λ (high : w ≤ j / 64). let at : j / 64 ≡ w = omega (arith, less, lt, high) in
-          let inside : j % 64 < trailing_zeros w64 x = omega (arith, at, less) in
-          ne_eqb _ 1 (λ one. omega (arith, one, ap (λ k. bit_at (get_or ws k 0) (j % 64)) at ∙ ap (λ v. bit_at v (j % 64)) (sym e) ∙ tz.2 (j % 64) inside)))
-          (cases_lt (j / 64) w);
-    }
-
-pub trailing_few : (x : ℕ) → 0 < x → x < 2 ^ 64 → trailing_zeros w64 x < 64
-trailing_few x some small = (bit_at-trailing_zeros w64 x some small).0
