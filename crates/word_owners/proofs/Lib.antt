@@ -49,3 +49,4 @@ pub mod Spaces
 pub mod FreedSpaces
 pub mod Readings
 pub mod BuiltBlocks
+pub mod FreePlaces

@@ -15,3 +15,4 @@ pub mod Readings
 pub mod Laws
 pub mod Spaces
 pub mod BuiltBlocks
+pub mod FreePlaces

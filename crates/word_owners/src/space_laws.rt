@@ -1,6 +1,7 @@
 //! Laws of what Build takes and writes. Each function does nothing; its contract is the law.
 
 ghost use Rattle.word_owners.specs.BuiltBlocks.{BlockBuilt};
+ghost use Rattle.word_owners.specs.FreePlaces.{PlacesFree};
 ghost use Rattle.word_owners.specs.Spaces.{BuffersOwned, BuildOwns, FreeOwns, OpeningOwns, StaysOwned};
 
 /// Live tickets own parts of the buffer region: each piece of a buffer lies in a chunk that is out of the desk's space, and
@@ -19,4 +20,10 @@ pub fn space_is_owned()
 /// pieces, none of them empty: it isn't started, its GATE is BADTASK, and both data pointers denote the whole buffer.
 pub fn block_is_built()
     ensures { BlockBuilt }
+{}
+
+/// Where of each unit of a rig at most as many tickets live as its depth, and of this one fewer, the block and the tag that
+/// Build takes are free: a command block that no live ticket has, and a byte that no live ticket of the unit has.
+pub fn places_are_free()
+    ensures { PlacesFree }
 {}
