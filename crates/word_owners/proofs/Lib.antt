@@ -50,3 +50,4 @@ pub mod FreedSpaces
 pub mod Readings
 pub mod BuiltBlocks
 pub mod FreePlaces
+pub mod BuiltTickets

@@ -128,7 +128,7 @@ order : (t n : ℕ) → (t < n) ⊎ ((t ≡ n + 0) ⊎ (n + 1 ≤ t))
 order t n = grind arith
 
 -- a ticket of the desk before, the new one, or none
-ticket-built : (ts : List Ticket) (k : Ticket) (t : ℕ) → ((t < length ts) × (get_or (ts ++ k ∷ []) t no_ticket ≡ get_or ts t no_ticket)) ⊎ (((t ≡ length ts) × (get_or (ts ++ k ∷ []) t no_ticket ≡ k)) ⊎ (get_or (ts ++ k ∷ []) t no_ticket ≡ no_ticket))
+pub ticket-built : (ts : List Ticket) (k : Ticket) (t : ℕ) → ((t < length ts) × (get_or (ts ++ k ∷ []) t no_ticket ≡ get_or ts t no_ticket)) ⊎ (((t ≡ length ts) × (get_or (ts ++ k ∷ []) t no_ticket ≡ k)) ⊎ (get_or (ts ++ k ∷ []) t no_ticket ≡ no_ticket))
 ticket-built ts k t = elim (order t (length ts)) [
   | inl l ↦ inl (l, get_or-append ts (k ∷ []) no_ticket t l)
   | inr (inl e) ↦ inr (inl (omega (arith, e), ap (λ (i : ℕ). get_or (ts ++ k ∷ []) i no_ticket) e ∙ get_or-append-add ts (k ∷ []) 0 no_ticket))

@@ -16,3 +16,4 @@ pub mod Laws
 pub mod Spaces
 pub mod BuiltBlocks
 pub mod FreePlaces
+pub mod BuiltTickets

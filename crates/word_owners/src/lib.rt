@@ -14,4 +14,4 @@ pub use laws::{
     opening_holds, queues_hold, resets_hold, restarts_hold, rings_are_read, senses_hold,
     sweeps_hold, takes_hold,
 };
-pub use space_laws::{block_is_built, places_are_free, space_is_owned};
+pub use space_laws::{block_is_built, places_are_free, space_is_owned, tickets_are_built};

@@ -1,6 +1,7 @@
 //! Laws of what Build takes and writes. Each function does nothing; its contract is the law.
 
 ghost use Rattle.word_owners.specs.BuiltBlocks.{BlockBuilt};
+ghost use Rattle.word_owners.specs.BuiltTickets.{TicketsBuilt};
 ghost use Rattle.word_owners.specs.FreePlaces.{PlacesFree};
 ghost use Rattle.word_owners.specs.Spaces.{BuffersOwned, BuildOwns, FreeOwns, OpeningOwns, StaysOwned};
 
@@ -26,4 +27,10 @@ pub fn block_is_built()
 /// Build takes are free: a command block that no live ticket has, and a byte that no live ticket of the unit has.
 pub fn places_are_free()
     ensures { PlacesFree }
+{}
+
+/// Build enters a ticket whose block, tag and buffer no live ticket has, and of no unit do more tickets live than its
+/// depth: what the invariant asks of live tickets, and what they own of the buffer region, goes on.
+pub fn tickets_are_built()
+    ensures { TicketsBuilt }
 {}
