@@ -1,6 +1,6 @@
 -- A ticket is built: what is kept of the others stays, and it has the least free block and tag.
-use Rattle.std.proofs.Common.{arith, ◌≡◌, ◌≢◌, ℕ, zero, suc, ◌+◌, ◌*◌, ◌<◌, ◌≤◌, Bool, true, false, cond, not, List, [], ◌∷◌, ◌++◌, map, length, Option, Some, None, refl, sym, ap, subst, ◌∙◌, get_or, set, append-nil, length-set, get_or-set_same, get_or-set_other, inl, inr, ⊎_elim}
-use Rattle.std.specs.Prelude.{All, position, find, sum, sum_by, count_by, zip, unwrap_or, Result, Ok, Err, MatchResult, IfOk}
+use Rattle.std.proofs.Common.{arith, ◌≡◌, ◌≢◌, ℕ, zero, suc, ◌+◌, ◌<◌, ◌≤◌, Bool, true, false, cond, not, List, [], ◌∷◌, ◌++◌, map, length, Option, Some, None, refl, sym, ap, subst, ◌∙◌, get_or, set, append-nil, length-set, get_or-set_same, get_or-set_other, ⊎_elim}
+use Rattle.std.specs.Prelude.{All, position, find, sum, count_by, zip, unwrap_or, Result, Ok, Err, MatchResult, IfOk}
 use Rattle.std.specs.List.{list_any, range_with_len}
 use Rattle.std.proofs.lemmas.Bool.{cases_lt}
 use Rattle.std.proofs.lemmas.List.Elements.{All-push}
@@ -11,7 +11,6 @@ use Rattle.std.proofs.lemmas.List.Folds.{list_any_none, list_any_at}
 use Rattle.std.proofs.lemmas.List.Quantifiers.{position-Some}
 use Rattle.rig_types.specs.declared.rig.Unit.{Unit as RigUnit}
 use Rattle.dma_buddy.specs.declared.buddies.Chunk.{Chunk}
-use Rattle.dma_buddy.specs.Chunks.{IsSizeFor}
 use Rattle.dma_buddy.specs.Regions.{Space, AreOut, TakesAll, RefusesAt, LeavesAllOut, IsSamePlace}
 use Rattle.dma_buddy.proofs.Held.{held-more}
 use Rattle.desk_law.specs.declared.ticket.Piece.{Piece}
@@ -20,7 +19,7 @@ use Rattle.desk_law.specs.Desk.{DeskState, no_ticket, no_unit, lives, is_of_unit
 use Rattle.desk_law.specs.Building.{piece, first_free}
 use Rattle.driver_desk.specs.declared.reporting.Room.{Room}
 use Rattle.driver_desk.specs.Kept.{total, IsTicket, IsIndex, IsDesk}
-use Rattle.driver_desk.specs.Held.{core, at, Keyed, block_key, tag_key, piece_chunks, held_by, held, IsBuffer, HasRoom, more, IsHeld, IsKept}
+use Rattle.driver_desk.specs.Held.{core, at, block_key, tag_key, piece_chunks, held_by, held, IsBuffer, HasRoom, more, IsHeld, IsKept}
 use Rattle.driver_desk.specs.Conditions.{AreFor}
 use Rattle.driver_desk.proofs.Counting.{counted-built}
 use Rattle.driver_desk.proofs.Freeing.{out-left}

@@ -1,5 +1,5 @@
 -- Build from its parts: chunks are taken, a ticket is entered, its block is written.
-use Rattle.std.proofs.Common.{arith, ◌≡◌, ℕ, true, false, List, [], ◌∷◌, ◌++◌, length, None, refl, sym, ap, subst, ◌∙◌}
+use Rattle.std.proofs.Common.{◌≡◌, ℕ, false, List, [], length, None, refl, sym, ap, subst, ◌∙◌}
 use Rattle.std.proofs.lemmas.List.{get_or_push}
 use Rattle.rig_types.specs.declared.step.Line.{Line}
 use Rattle.unit_law.specs.Request.{RequestData}

@@ -1,5 +1,5 @@
 -- A desk with one ticket more is one.
-use Rattle.std.proofs.Common.{arith, ◌≡◌, ℕ, ◌+◌, ◌<◌, ◌≤◌, true, false, List, [], ◌∷◌, ◌++◌, map, length, Option, Some, None, refl, sym, ap, subst, ◌∙◌, get_or, set}
+use Rattle.std.proofs.Common.{arith, ◌≡◌, ℕ, ◌+◌, ◌<◌, ◌≤◌, false, List, [], ◌∷◌, ◌++◌, map, length, Option, Some, None, sym, ap, subst, ◌∙◌, get_or, set}
 use Rattle.std.specs.Prelude.{All, sum, count_by, position}
 use Rattle.rig_types.specs.declared.step.Line.{Line}
 use Rattle.unit_law.specs.Request.{RequestData}
@@ -13,7 +13,7 @@ use Rattle.desk_law.specs.Refusals.{kind_of, is_full}
 use Rattle.desk_law.specs.Building.{new_ticket}
 use Rattle.driver_desk.specs.declared.reporting.Room.{Room}
 use Rattle.driver_desk.specs.Kept.{total, IsTicket, IsIndex, IsDesk}
-use Rattle.driver_desk.specs.Held.{core, block_key, tag_key, piece_chunks, held, IsBuffer, more, IsKept}
+use Rattle.driver_desk.specs.Held.{core, block_key, tag_key, piece_chunks, held, more, IsKept}
 use Rattle.driver_desk.specs.Conditions.{pieces_of, AreFor}
 use Rattle.driver_desk.proofs.Index.{block_found, tag_found}
 use Rattle.driver_desk.proofs.Refusing.{sound}

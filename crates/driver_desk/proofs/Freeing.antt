@@ -1,12 +1,12 @@
 -- A ticket is freed: what is kept of the others stays.
-use Rattle.std.proofs.Common.{arith, ◌≡◌, ◌≢◌, ℕ, zero, suc, ◌+◌, ◌*◌, ◌<◌, ◌≤◌, Bool, true, false, cond, not, List, [], ◌∷◌, ◌++◌, map, length, Option, Some, None, refl, sym, ap, subst, ◌∙◌, get_or, set, length-set, get_or-set_same, get_or-set_other, inl, inr, ⊎_elim}
+use Rattle.std.proofs.Common.{arith, ◌≡◌, ◌≢◌, ℕ, zero, suc, ◌+◌, ◌<◌, ◌≤◌, Bool, true, false, cond, not, List, [], ◌∷◌, ◌++◌, map, length, Option, Some, None, refl, sym, ap, subst, ◌∙◌, get_or, set, length-set, get_or-set_other}
 use Rattle.std.specs.Prelude.{All}
 use Rattle.std.proofs.lemmas.List.{append_assoc, length-map, map-set, get_or_default}
 use Rattle.std.proofs.lemmas.List.Elements.{All-set}
 use Rattle.rig_types.specs.declared.rig.Unit.{Unit as RigUnit}
 use Rattle.host_map.specs.Places.{IsCommandBlock}
 use Rattle.dma_buddy.specs.declared.buddies.Chunk.{Chunk}
-use Rattle.dma_buddy.specs.Regions.{Space, IsAmong, IsOut, AreOut, AreApart, IsSamePlace}
+use Rattle.dma_buddy.specs.Regions.{Space, AreOut, AreApart, IsSamePlace}
 use Rattle.dma_buddy.proofs.Sets.{among-left, among-right}
 use Rattle.desk_law.specs.declared.ticket.Piece.{Piece}
 use Rattle.desk_law.specs.declared.ticket.Ticket.{Ticket}
@@ -15,7 +15,7 @@ use Rattle.driver_desk.specs.declared.reporting.Room.{Room}
 use Rattle.desk_law.specs.declared.stage.Stage.TheVariants.{Unlinked, Freed}
 use Rattle.driver_desk.specs.Kept.{total, IsTicket, IsIndex, IsDesk}
 use Rattle.driver_desk.specs.Held.{core, at, Keyed, block_key, tag_key, piece_chunks, held_by, held, IsBuffer, HasRoom, less, IsHeld, IsKept}
-use Rattle.driver_desk.proofs.Keys.{Other, other, keyed-freed, lives-core, at-core, same-some, index_from}
+use Rattle.driver_desk.proofs.Keys.{other, keyed-freed, lives-core, at-core, same-some, index_from}
 use Rattle.driver_desk.proofs.Index.{tries_of}
 use Rattle.driver_desk.proofs.Counting.{counted-freed, one_lives}
 use Rattle.driver_desk.proofs.GivenBack.{pieces_inside}

@@ -4,7 +4,7 @@ use Rattle.std.specs.Prelude.{All, slice_get, Some}
 use Rattle.std.proofs.lemmas.List.{append-nil, drop_more, drop_all, length-map, get_or-map}
 use Rattle.std.specs.List.{remove}
 use Rattle.dma_buddy.specs.declared.buddies.Chunk.{Chunk}
-use Rattle.dma_buddy.specs.Regions.{Space, IsRegion, IsOut, IsAmong, AreOut, Takes, TakesAll, Gives, PutsBack, IsSamePlace}
+use Rattle.dma_buddy.specs.Regions.{Space, IsRegion, IsOut, IsAmong, AreOut, TakesAll, Gives, PutsBack, IsSamePlace}
 use Rattle.dma_buddy.proofs.Held.{held-less, among-at}
 use Rattle.dma_buddy.proofs.TakenChunks.{region-after-take}
 use Rattle.dma_buddy.proofs.Lists.{undone}

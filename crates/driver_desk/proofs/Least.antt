@@ -1,11 +1,11 @@
 -- The least free block, and the least free tag of a unit: there is one where the unit isn't full.
-use Rattle.std.proofs.Common.{arith, ◌≡◌, ℕ, ◌+◌, ◌*◌, ◌/◌, ◌%◌, ◌<◌, ◌≤◌, ◌==◌, Bool, true, false, cond, nat_le, List, map, length, Option, Some, None, refl, sym, ap, subst, ◌∙◌, get_or}
+use Rattle.std.proofs.Common.{arith, ◌≡◌, ℕ, ◌+◌, ◌*◌, ◌/◌, ◌%◌, ◌<◌, ◌≤◌, ◌==◌, Bool, true, false, cond, nat_le, List, map, length, Option, None, sym, ap, subst, ◌∙◌, get_or}
 use Rattle.std.specs.Prelude.{All, position, filter, count_by, IsSome, unwrap_or}
 use Rattle.std.specs.List.{list_any, range_with_len}
 use Rattle.std.proofs.lemmas.List.{length-map, map-id}
 use Rattle.rig_types.specs.declared.rig.Unit.{Unit as RigUnit}
-use Rattle.rig_types.specs.Ranges.{most_depth, depths}
-use Rattle.host_map.specs.Places.{IsCommandBlock, block_at}
+use Rattle.rig_types.specs.Ranges.{most_depth}
+use Rattle.host_map.specs.Places.{block_at}
 use Rattle.dma_buddy.specs.Regions.{Space}
 use Rattle.desk_law.specs.declared.ticket.Ticket.{Ticket}
 use Rattle.desk_law.specs.Desk.{no_ticket, no_unit, lives, is_of_unit, has_tag, has_block}
@@ -14,7 +14,7 @@ use Rattle.driver_desk.specs.declared.reporting.Room.{Room}
 use Rattle.driver_desk.specs.Kept.{IsTicket, IsIndex, IsDesk}
 use Rattle.driver_desk.specs.Held.{core, at, IsKept}
 use Rattle.driver_desk.specs.Conditions.{IsTaken, IsFirstFree, step_of}
-use Rattle.driver_desk.proofs.Keys.{lives-core, at-core}
+use Rattle.driver_desk.proofs.Keys.{at-core}
 use Rattle.driver_desk.proofs.Additions.{any-none, any-some, first-free}
 use Rattle.driver_desk.proofs.Counting.{by-some, not_full, some_room, all_blocks, all_tags}
 

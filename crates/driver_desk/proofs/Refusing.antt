@@ -1,5 +1,5 @@
 -- Descriptor blocks that are whole.
-use Rattle.std.proofs.Common.{arith, ◌≡◌, ℕ, zero, suc, ◌+◌, ◌<◌, ◌≤◌, ◌==◌, ◌&&◌, ◌||◌, Bool, true, false, not, cond, nat_lt, nat_le, lit<, subst, Option, Some, None, List, [], ◌∷◌, length, get_or, refl}
+use Rattle.std.proofs.Common.{arith, ◌≡◌, ℕ, zero, suc, ◌+◌, ◌<◌, ◌≤◌, ◌==◌, ◌||◌, Bool, true, false, not, cond, nat_lt, nat_le, lit<, subst, Option, Some, None, List, [], ◌∷◌, length, get_or, refl}
 use Rattle.std.proofs.lemmas.Bool.Decides.{nat_tests}
 use Rattle.std.specs.Prelude.{All, find, sum, option_map}
 use Rattle.std.specs.List.{list_any}

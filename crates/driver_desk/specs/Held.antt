@@ -1,5 +1,5 @@
 -- What is true at all times of what the desk keeps beside its tickets (own). Lemmas speak of it; no public contract rests on it.
-use Rattle.std.specs.Prelude.{◌≡◌, ℕ, zero, suc, ◌+◌, ◌-◌, ◌*◌, ◌/◌, ◌<◌, ◌≤◌, Bool, true, false, List, [], ◌∷◌, ◌++◌, length, map, All, Option, Some, None, cond, flat_map, count_by, slice_index_or, slice_set}
+use Rattle.std.specs.Prelude.{◌≡◌, ℕ, ◌+◌, ◌-◌, ◌*◌, ◌/◌, ◌<◌, ◌≤◌, true, List, [], length, map, All, Option, Some, None, cond, flat_map, count_by, slice_index_or, slice_set}
 use Rattle.rig_types.specs.declared.rig.Unit.{Unit as RigUnit}
 use Rattle.rig_types.specs.Ranges.{IsRig}
 use Rattle.host_map.specs.declared.TheConstants.{BLOCKS, BLOCK_BYTES, BUFFERS, CHUNK_COUNT}

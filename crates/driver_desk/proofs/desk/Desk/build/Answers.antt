@@ -1,4 +1,4 @@
-use Rattle.std.proofs.Common.{◌≡◌, refl}
+use Rattle.std.proofs.Common.{refl}
 use Rattle.unit_law.specs.Request.{plain}
 use Rattle.driver_desk.proofs.Refusing.{whole_few, sound}
 use Rattle.driver_desk.proofs.BuiltTicket.{builds, not_refused, given_back}

@@ -1,4 +1,4 @@
-use Rattle.std.proofs.Common.{rules, arith, ◌≡◌, ℕ, ◌+◌, ◌<◌, false, None, length, sym, ap, subst}
+use Rattle.std.proofs.Common.{◌≡◌, ℕ, ◌+◌, ◌<◌, false, None, length, sym, ap, subst}
 use Rattle.unit_law.specs.Request.{plain}
 use Rattle.desk_law.specs.declared.ticket.Ticket.{Ticket}
 use Rattle.desk_law.specs.Desk.{DeskState, ticket_of, ticket_at}
