@@ -11,6 +11,8 @@ mod live_bus;
 mod opening;
 mod resetting;
 mod rooms;
+#[cfg(test)]
+mod tests;
 mod tickets;
 mod turns;
 
