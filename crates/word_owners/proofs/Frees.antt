@@ -13,13 +13,13 @@ use Rattle.desk_law.specs.Calls.{staged as desk_staged}
 use Rattle.desk_law.specs.Reporting.{report_at}
 use Rattle.world_law.specs.World.{World}
 use Rattle.word_owners.specs.Tickets.{Tickets, tickets_of, block_of, target_of, is_check, IsLive, IsActive, IsBound}
-use Rattle.word_owners.specs.Points.{Work, Entering, Selected, Ending, Carrying, Moving, Behind, Returning, Naming, Choosing, Finding, Listed, Tagged, InTable, Offset, Candidate, Saved}
+use Rattle.word_owners.specs.Points.{Work}
 use Rattle.word_owners.specs.Parts.{Counts, Parts, TagTables, IsEntry, IsBlock, IsFresh}
-use Rattle.word_owners.specs.Works.{role, worker, Extra, Works}
+use Rattle.word_owners.specs.Works.{role, worker, Works}
 use Rattle.word_owners.specs.Holds.{Spot, Holds, closing_at, work_at}
 use Rattle.word_owners.specs.Laws.{FreeHolds}
 use Rattle.word_owners.proofs.Frames.{same_or}
-use Rattle.word_owners.proofs.StageChanges.{Turns, staged, Aside, aside, live-before, tickets-turned, start-turned, done-turned, front-turned, answered-turned, works-turned, plays-turned}
+use Rattle.word_owners.proofs.StageChanges.{Turns, staged, Aside, aside, live-before, tickets-turned, start-turned, done-turned, front-turned, answered-turned, works-turned, work-kept, to-other}
 use Rattle.word_owners.proofs.WriteFrames.{fresh-live}
 use Rattle.word_owners.proofs.Lists.{desk-turns, desk-staged, desk-checked, same-fixed}
 use Rattle.word_owners.proofs.ChipPlace.{patched, entries-at}
@@ -65,36 +65,9 @@ module _ (version : ℕ) (w : ℕ → ℕ) (ts : Tickets) (c : Counts) (o : Opti
           inr (k.0, record { bound = subst IsBound (sym (turns.other k.0 ne)) k.1.bound; unit_is = k.1.unit_is; tag_is = k.1.tag_is; block_is = k.1.block_is })
 
   -- a candidate's block is that of another ticket, or its GATE is BADTASK
-  extra-freed : (k : Work) → field w (block_of ts t) Gate ≡ 0x1C0 → Extra k w ts → Extra k w (staged ts new)
-  extra-freed (Candidate b r) g h = (
-    h.0,
-    elim h.1 [
-      | inl e ↦ inl e
-      | inr e ↦ elim (same_or e.0 t) [
-        | inl z ↦ inl (ap (λ (i : ℕ). field w i Gate) (sym e.1.block_is ∙ ap (block_of ts) z) ∙ g)
-        | inr z ↦ inr (e.0, record { live = subst IsLive (sym (turns.other e.0 z)) e.1.live; block_is = e.1.block_is; target_is = e.1.target_is })
-      ]
-    ],
-  )
-  extra-freed (Entering u a) g h = h
-  extra-freed (Selected u) g h = h
-  extra-freed (Ending u v) g h = h
-  extra-freed (Carrying u p) g h = h
-  extra-freed (Moving u x) g h = h
-  extra-freed (Behind u phase j) g h = h
-  extra-freed (Returning u a) g h = h
-  extra-freed (Naming r) g h = h
-  extra-freed (Choosing r j) g h = h
-  extra-freed (Finding r j) g h = h
-  extra-freed (Listed u r) g h = h
-  extra-freed (Tagged u x r) g h = h
-  extra-freed (InTable u y x r) g h = h
-  extra-freed (Offset u y k r) g h = h
-  extra-freed (Saved u) g h = h
-  extra-freed _ g h = tt
-
   work-freed : (k : Work) → field w (block_of ts t) Gate ≡ 0x1C0 → ((u : ℕ) → worker (role k) ≡ Some u → u ≢ t) → Works k w ts c → Works k w (staged ts new) c
-  work-freed k g ne h = record { plays = plays-turned w ts new t stage.Freed turns (role k) c ne h.plays; extra = extra-freed k g h.extra }
+  work-freed k g ne h = work-kept w ts new t stage.Freed turns k c
+      (λ u l. elim (same_or u t) [ inl z ↦ inr (ap (λ (i : ℕ). field w (block_of ts i) Gate) z ∙ g) | inr z ↦ inl (to-other w ts new t stage.Freed turns IsLive u z l) ]) ne h
 
 -- the reports stand beside the invariant
 told : (version : ℕ) (units : List RigUnit) (s : Spot) (c : Counts) (w : World) (reports : List Report) → Holds version units s c w → Holds version units s c (record w { reports = reports })

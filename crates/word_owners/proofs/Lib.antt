@@ -51,3 +51,4 @@ pub mod Readings
 pub mod BuiltBlocks
 pub mod FreePlaces
 pub mod BuiltTickets
+pub mod Additions

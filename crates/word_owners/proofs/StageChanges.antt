@@ -230,12 +230,19 @@ module _ (w : ℕ → ℕ) (ts : Tickets) (new : ℕ → Stage) (t : ℕ) (s : S
   plays-turned (Closing u) c ne h = (begun-turned u (ne u refl) h.0, h.1)
   plays-turned (Done u) c ne h = (over-turned u (ne u refl) h.0, h.1)
 
-  extra-turned : (k : Work) → IsLive s → Extra k w ts → Extra k w (staged ts new)
+  -- each ticket that lived still lives, or its GATE is BADTASK
+  abbrev pub StillLive : Type 0
+  StillLive = (u : ℕ) → IsLive (ts.stage u) → IsLive (new u) ⊎ (field w (block_of ts u) Gate ≡ 0x1C0)
+
+  extra-turned : (k : Work) → StillLive → Extra k w ts → Extra k w (staged ts new)
   extra-turned (Candidate b r) l h = (
     h.0,
     elim h.1 [
       | inl e ↦ inl e
-      | inr e ↦ inr (e.0, record { live = live-after l e.0 e.1.live; block_is = e.1.block_is; target_is = e.1.target_is })
+      | inr e ↦ elim (l e.0 e.1.live) [
+        | inl z ↦ inr (e.0, record { live = z; block_is = e.1.block_is; target_is = e.1.target_is })
+        | inr g ↦ inl (ap (λ (i : ℕ). field w i Gate) (sym e.1.block_is) ∙ g)
+      ]
     ],
   )
   extra-turned (Entering u a) l h = h
@@ -255,8 +262,11 @@ module _ (w : ℕ → ℕ) (ts : Tickets) (new : ℕ → Stage) (t : ℕ) (s : S
   extra-turned (Saved u) l h = h
   extra-turned _ l h = tt
 
+  pub work-kept : (k : Work) (c : Counts) → StillLive → ((u : ℕ) → worker (role k) ≡ Some u → u ≢ t) → Works k w ts c → Works k w (staged ts new) c
+  work-kept k c l ne h = record { plays = plays-turned (role k) c ne h.plays; extra = extra-turned k l h.extra }
+
   pub work-turned : (k : Work) (c : Counts) → IsLive s → ((u : ℕ) → worker (role k) ≡ Some u → u ≢ t) → Works k w ts c → Works k w (staged ts new) c
-  work-turned k c l ne h = record { plays = plays-turned (role k) c ne h.plays; extra = extra-turned k l h.extra }
+  work-turned k c l ne h = work-kept k c (λ u m. inl (live-after l u m)) ne h
 
 -- the ticket at work is active
 pub worker-active : (r : Role) (w : ℕ → ℕ) (ts : Tickets) (c : Counts) (u : ℕ) → worker r ≡ Some u → Plays r w ts c → IsActive (ts.stage u)

@@ -12,6 +12,7 @@ pub mod Steps
 pub mod BenchSteps
 pub mod StopCauses
 pub mod Readings
+pub mod Additions
 pub mod Laws
 pub mod Spaces
 pub mod BuiltBlocks

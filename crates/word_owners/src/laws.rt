@@ -1,5 +1,6 @@
 //! Laws of the invariant. Each function does nothing; its contract is the law.
 
+ghost use Rattle.word_owners.specs.Additions.{AddHolds};
 ghost use Rattle.word_owners.specs.BenchSteps.{BenchStepsHold};
 ghost use Rattle.word_owners.specs.Readings.{RingsAreRead};
 ghost use Rattle.word_owners.specs.Laws.{FixHolds, FreeHolds, HoldsOpened, JobHolds, LinkHolds, MarkHolds, QueueHolds, ResetHolds, RestartHolds, SenseHolds, SignalHolds, SweepHolds, TakeHolds, UnlinkHolds};
@@ -84,4 +85,10 @@ pub fn bench_steps_hold()
 /// Wherever the invariant holds, RINGP is a start slot, and a done slot that isn't idle has a ticket to take.
 pub fn rings_are_read()
     ensures { RingsAreRead }
+{}
+
+/// The invariant holds on, wherever the chip is or stands in a stop, where the desk has one ticket more whose block was
+/// built: every other ticket and all memory beside the block are as before.
+pub fn tickets_are_added()
+    ensures { AddHolds }
 {}
