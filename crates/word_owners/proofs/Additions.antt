@@ -105,12 +105,12 @@ module _ (version : ℕ) (w n : ℕ → ℕ) (ts new : Tickets) (t : ℕ) (c : C
   to-fixed P u ne h = subst P (sym (a.fixeds u ne)) h
 
   low : (x : ℕ) → x + 4 ≤ 0x10000 → n x ≡ w x
-  low x l = a.outside x (omega (arith, (a.tickets.block t here).from))
+  low x l = a.outside x (omega arith) (omega (arith, (a.tickets.block t here).from))
 
   whole : (u : ℕ) → IsLive (ts.stage u) → Same w n (block_of ts u) (block_of ts u + 0x200)
   whole u l x f g =
       let ne = other u l in
-      a.outside x (other-block (block_of new t) (block_of ts u) x (a.tickets.block t here) (d.block u l) (λ e. a.tickets.blocks t u here (now-live u ne l) (λ i. ne (sym i)) (e ∙ sym (block-is u ne))) f g)
+      a.outside x (omega (arith, (d.block u l).below)) (other-block (block_of new t) (block_of ts u) x (a.tickets.block t here) (d.block u l) (λ e. a.tickets.blocks t u here (now-live u ne l) (λ i. ne (sym i)) (e ∙ sym (block-is u ne))) f g)
 
   table : (u : ℕ) → IsLive (ts.stage u) → Same w n (block_of ts u + 0x40) (block_of ts u + 0xE0)
   table u l x f g = whole u l x (omega arith) (omega arith)
@@ -295,7 +295,7 @@ module _ (version : ℕ) (w n : ℕ → ℕ) (ts new : Tickets) (t : ℕ) (c : C
     elim h.1 [
       | inl e ↦ inl (elim (same_or b (block_of new t)) [
         | inl z ↦ ap (λ (i : ℕ). field n i Gate) z ∙ a.gate
-        | inr z ↦ a.outside (b + 0x1C) (other-block (block_of new t) b (b + 0x1C) (a.tickets.block t here) h.0 (λ i. z (sym i)) (omega arith) (omega arith)) ∙ e
+        | inr z ↦ a.outside (b + 0x1C) (omega (arith, h.0.below)) (other-block (block_of new t) b (b + 0x1C) (a.tickets.block t here) h.0 (λ i. z (sym i)) (omega arith) (omega arith)) ∙ e
       ])
       | inr e ↦
           let ne = other e.0 e.1.live in

@@ -1,5 +1,5 @@
 -- The desk has one ticket more: what is asked of it, its block and the others.
-use Rattle.std.specs.Prelude.{◌≡◌, ◌≢◌, ◌+◌, ℕ, List, length}
+use Rattle.std.specs.Prelude.{◌≡◌, ◌≢◌, ◌+◌, ◌≤◌, ℕ, List, length}
 use Rattle.bench_words.specs.Bytes.{IsBytes}
 use Rattle.bench_words.specs.Memory.{word_at}
 use Rattle.bench_words.specs.Views.{Outside}
@@ -16,8 +16,8 @@ use Rattle.word_owners.specs.Tickets.{Tickets, tickets_of, block_of, target_of, 
 use Rattle.word_owners.specs.Parts.{Counts, IsBlock}
 use Rattle.word_owners.specs.Holds.{Spot, Holds}
 
--- Ticket t is built, which was no live one, and every other ticket is as before. Memory differs in its block alone, which is a block at the
--- opening of a command: STATE is LIVE and GATE is BADTASK.
+-- Ticket t is built, which was no live one, and every other ticket is as before. Below the buffer region memory differs in its block
+-- alone, whose STATE is LIVE and whose GATE is BADTASK.
 pub record IsAdded (w n : ℕ → ℕ) (ts new : Tickets) (t : ℕ) : Type 0 where
   pub units : new.units ≡ ts.units
   pub was : ts.stage t ≡ Freed
@@ -25,7 +25,7 @@ pub record IsAdded (w n : ℕ → ℕ) (ts new : Tickets) (t : ℕ) : Type 0 whe
   pub stages : (u : ℕ) → u ≢ t → new.stage u ≡ ts.stage u
   pub fixeds : (u : ℕ) → u ≢ t → new.fixed u ≡ ts.fixed u
   pub tickets : AreTickets new
-  pub outside : (x : ℕ) → Outside x (block_of new t) (block_of new t + 0x200) → n x ≡ w x
+  pub outside : (x : ℕ) → x + 4 ≤ 0x200000 → Outside x (block_of new t) (block_of new t + 0x200) → n x ≡ w x
   pub block : IsBlock n Built (new.fixed t) (target_of new t)
   pub live : field n (block_of new t) State ≡ LIVE
   pub gate : field n (block_of new t) Gate ≡ label_of label.Badtask

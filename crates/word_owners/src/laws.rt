@@ -88,7 +88,7 @@ pub fn rings_are_read()
 {}
 
 /// The invariant holds on, wherever the chip is or stands in a stop, where the desk has one ticket more whose block was
-/// built: every other ticket and all memory beside the block are as before.
+/// built: every other ticket and all memory beside the block and the buffer region are as before.
 pub fn tickets_are_added()
     ensures { AddHolds }
 {}
