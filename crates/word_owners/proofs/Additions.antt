@@ -1,13 +1,10 @@
 -- The invariant holds on where the desk has one ticket more.
-use Rattle.std.proofs.Common.{◌≡◌, ◌≢◌, ◌⊎◌, inl, inr, ℕ, ◌+◌, ◌<◌, ◌≤◌, List, length, Bool, true, false, slice_index_or, refl, sym, ap, subst, ◌∙◌, arith, Option, Some, None}
+use Rattle.std.proofs.Common.{◌≡◌, ◌≢◌, inl, inr, ℕ, ◌+◌, ◌<◌, ◌≤◌, List, length, true, slice_index_or, refl, sym, ap, subst, ◌∙◌, arith, Option, Some}
 use Rattle.bench_words.specs.Memory.{word_at}
 use Rattle.rig_types.specs.declared.rig.Unit.{Unit as RigUnit}
-use Rattle.host_map.specs.declared.TheConstants.{FRONT, CUR}
-use Rattle.host_map.specs.Places.{start_slot, done_slot, tag_entry, IsCommandBlock}
+use Rattle.host_map.specs.Places.{start_slot, done_slot, tag_entry}
 use Rattle.cmd_block.specs.declared.Field.TheVariants.{State, Gate}
 use Rattle.rig_chains.specs.Chains.{IsLaid, has_target, target_ops, lun_ops}
-use Rattle.phase_fix.specs.declared.moves.DataMove.{DataMove}
-use Rattle.phase_fix.specs.declared.moves.DataPhase.{DataPhase}
 use Rattle.phase_fix.specs.Remain.{field, segments_from}
 use Rattle.desk_law.specs.declared.stage.Stage.{Stage}
 use Rattle.desk_law.specs.declared.stage.Stage.TheVariants.{Built, Check, Sensing, Freed}
@@ -15,10 +12,10 @@ use Rattle.desk_law.specs.Desk.{no_unit}
 use Rattle.word_owners.specs.Additions.{IsAdded, AddHolds}
 use Rattle.word_owners.specs.Tickets.{Fixed, Tickets, tickets_of, block_of, unit_of, target_of, goal, way, IsLive, IsActive, IsBound, AreTickets}
 use Rattle.word_owners.specs.Pointers.{IsSuffix, IsPointer, IsWay, AreFilled, Names, move_place}
-use Rattle.word_owners.specs.Points.{Point, about, Link, Work, OfTicket, Entering, Selected, Ending, Carrying, Moving, Behind, Returning, Naming, Choosing, Finding, Listed, Tagged, InTable, Offset, Candidate, Saved, At068, At070, At078, At080, At088, At090, At098, At0A0, At0A8, At0B0, At0B8, At0C0, At0C8, At0D0, At0D8, At0E0, At0E8, At0F0, At0F8, At100, At108, At110, At118, At120, At128, At130, At138, At140, At148, At1A8, At1B0, At1B8, At1C8, At278, At280, At288, At2B8, At340, At3C8, At3D0, At3D8, At448, At450, At458, BehindContext, LeavesContext, Moves}
+use Rattle.word_owners.specs.Points.{Point, about, Work, OfTicket, Entering, Selected, Ending, Carrying, Moving, Behind, Returning, Naming, Choosing, Finding, Listed, Tagged, InTable, Offset, Candidate, Saved, At068, At070, At078, At080, At088, At090, At098, At0A0, At0A8, At0B0, At0B8, At0C0, At0C8, At0D0, At0D8, At0E0, At0E8, At0F0, At0F8, At100, At108, At110, At118, At120, At128, At130, At138, At140, At148, At1A8, At1B0, At1B8, At1C8, At278, At280, At288, At2B8, At340, At3C8, At3D0, At3D8, At448, At450, At458, BehindContext, LeavesContext, Moves}
 use Rattle.word_owners.specs.Parts.{Counts, Parts, TagTables, StartRing, DoneRing, Waits, IsBegun, IsOver, IsThere, Asks, IsFront, IsEntry, IsBlock, IsFresh, HasAnswered, NotStarting, NotEntered, MayWork}
 use Rattle.word_owners.specs.Works.{Role, Nothing, First, Asked, Working, Closing, Done, role, worker, Plays, Extra, Works, IsUnitOf}
-use Rattle.word_owners.specs.Holds.{Spot, Holds, Running, Mismatched, Fixed as FixedSpot, TimedOut, JobOver, ResetAt, work_at, link_at, closing_at}
+use Rattle.word_owners.specs.Holds.{Spot, Running, Mismatched, Fixed as FixedSpot, work_at, link_at, closing_at}
 use Rattle.word_owners.proofs.ChipPlace.{stays-same, linked-same, entries-at, unasked-same}
 use Rattle.word_owners.proofs.Frames.{Same, same_or, active-live, other-block, loaded-frame, chains-frame, constants-frame, fixed-frame, segments-same, filled-frame, names-frame, pointer-frame, block-frame, not_starting-frame, not_entered-frame}
 use Rattle.word_owners.proofs.Patches.{few}

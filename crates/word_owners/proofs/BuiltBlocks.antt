@@ -51,11 +51,11 @@ segments-fit j [] h f = tt
 segments-fit j (p ∷ ps) h f = let c : p.len < 2 ^ 24 = f.counts 0 (omega arith) in (omega arith, omega (arith, c), (omega arith, f.places 0 (omega arith), segments-fit (j + 1) ps (omega arith) (fit-rest p ps f)))
 
 -- they lie beside a word below them, and beside one above the table
-below-segments : (b j a : ℕ) (ps : List Piece) → a + 4 ≤ b + (0x40 + 8 * j) → AllApart b (segment_fields j ps) a
+pub below-segments : (b j a : ℕ) (ps : List Piece) → a + 4 ≤ b + (0x40 + 8 * j) → AllApart b (segment_fields j ps) a
 below-segments b j a [] h = tt
 below-segments b j a (p ∷ ps) h = (omega arith, (omega arith, below-segments b (j + 1) a ps (omega arith)))
 
-above-segments : (b j a : ℕ) (ps : List Piece) → j + length ps ≤ 16 → b + 0xC0 ≤ a → AllApart b (segment_fields j ps) a
+pub above-segments : (b j a : ℕ) (ps : List Piece) → j + length ps ≤ 16 → b + 0xC0 ≤ a → AllApart b (segment_fields j ps) a
 above-segments b j a [] h l = tt
 above-segments b j a (p ∷ ps) h l = (omega arith, (omega arith, above-segments b (j + 1) a ps (omega arith) l))
 
@@ -142,7 +142,7 @@ begins-small direction.In n = omega arith
 begins-small direction.Out n = omega arith
 begins-small direction.None n = omega arith
 
-abbrev head : RigUnit → Ticket → ℕ → List (Field × ℕ)
+abbrev pub head : RigUnit → Ticket → ℕ → List (Field × ℕ)
 head u k n =
     (Start, 0x60) ∷ (Restart, 0x128) ∷ (Lastp, begins_at k) ∷ (Savep, begins_at k) ∷ (State, 0) ∷ (Status, 0xFF) ∷ (Sel, u.target * 0x10000) ∷ (Gate, 0x1C0) ∷ (MsgCount, 3) ∷ (MsgAt, k.block + 0xE0) ∷ (CmdCount, n) ∷
     (CmdAt, k.block + 0xF0) ∷ (StatCount, 1) ∷ (StatAt, k.block + 0x14) ∷ []
@@ -174,7 +174,7 @@ module _ (m : List ℕ) (u : RigUnit) (k : Ticket) (cdb : List ℕ) (s : length 
   size-headed : length headed ≡ 0x400000
   size-headed = length-with_fields cleared k.block (head u k (length cdb)) ∙ length-put_bytes m k.block (replicate 0x200 0) ∙ s
 
-  head-fits : AllFit (head u k (length cdb))
+  pub head-fits : AllFit (head u k (length cdb))
   head-fits =
       let p = x.block in
       (tt, lit< tt, (tt, lit< tt, (tt, begins-small k.direction (length k.pieces), (tt, begins-small k.direction (length k.pieces), (tt, lit< tt, (tt, lit< tt, (tt, omega (arith, target), (tt, lit< tt, (tt, lit< tt, (tt, omega (arith, p.below), (tt, omega (arith, short), (tt, omega (arith, p.below), (tt, lit< tt, (tt, omega (arith, p.below), tt))))))))))))))
@@ -185,14 +185,14 @@ module _ (m : List ℕ) (u : RigUnit) (k : Ticket) (cdb : List ℕ) (s : length 
       word_outside (put_bytes tabled (k.block + 0xE0) (message_bytes u k)) (k.block + 0xF0) a cdb (inl (omega (arith, l)))
       ∙ word_outside tabled (k.block + 0xE0) a (message_bytes u k) (inl (omega (arith, l)))
 
-  segments-fitted : AllFit (segment_fields (16 - length k.pieces) k.pieces)
+  pub segments-fitted : AllFit (segment_fields (16 - length k.pieces) k.pieces)
   segments-fitted = segments-fit (16 - length k.pieces) k.pieces (omega (arith, x.few)) fit
 
   room : k.block + 0x100 ≤ 0x400000
   room = let p = x.block in omega (arith, p.below)
 
   -- one of the first fourteen fields
-  reads : (i : ℕ) → i < 14 → offset (nth (head u k (length cdb)) i).0 + 4 ≤ 0x40 → n (k.block + offset (nth (head u k (length cdb)) i).0) ≡ (nth (head u k (length cdb)) i).1
+  pub reads : (i : ℕ) → i < 14 → offset (nth (head u k (length cdb)) i).0 + 4 ≤ 0x40 → n (k.block + offset (nth (head u k (length cdb)) i).0) ≡ (nth (head u k (length cdb)) i).1
   reads i l low =
       n-tabled (k.block + offset (nth (head u k (length cdb)) i).0) (omega (arith, low))
       ∙ with_fields-other headed k.block (segment_fields (16 - length k.pieces) k.pieces) (k.block + offset (nth (head u k (length cdb)) i).0) (omega (arith, size-headed, room)) segments-fitted

@@ -37,7 +37,7 @@ is-live : (k : Ticket) → lives k ≡ true → IsLive k.stage
 is-live k e f = let z : true ≡ false = sym e ∙ ap (λ (s : Stage). not (is_freed s)) f in absurd cc
 
 -- an accepted request is for a unit of the rig
-has-unit : (d : DeskState) (r : RequestData) → kind_of d.units r ≡ None → r.unit < length d.units
+pub has-unit : (d : DeskState) (r : RequestData) → kind_of d.units r ≡ None → r.unit < length d.units
 has-unit d r e = by (nat_le (length d.units) r.unit) refl
   where
     by : (b : Bool) → nat_le (length d.units) r.unit ≡ b → r.unit < length d.units

@@ -67,7 +67,7 @@ module _ (w n : ℕ → ℕ) (ts : Tickets) (v : ℕ) (d : AreTickets ts) (r : W
     entered = λ t e h. not_entered-frame w n c (block_of ts t) (λ x f l. above x (omega arith)) h;
   }
 
-linked-room : (l : Link) (ts : Tickets) (b : BusState) (target : ℕ) (r : Regs) → Linked l ts b r → Linked l ts (with_room_at b target) r
+pub linked-room : (l : Link) (ts : Tickets) (b : BusState) (target : ℕ) (r : Regs) → Linked l ts b r → Linked l ts (with_room_at b target) r
 linked-room (OfTicket t) ts b target r h = h
 linked-room (OfTarget i) ts b target r h = h
 linked-room Nobody ts b target r h = h

@@ -52,3 +52,5 @@ pub mod BuiltBlocks
 pub mod FreePlaces
 pub mod BuiltTickets
 pub mod Additions
+pub mod BuiltMemory
+pub mod Builds

@@ -18,3 +18,4 @@ pub mod Spaces
 pub mod BuiltBlocks
 pub mod FreePlaces
 pub mod BuiltTickets
+pub mod Builds

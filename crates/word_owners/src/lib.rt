@@ -14,4 +14,6 @@ pub use laws::{
     opening_holds, queues_hold, resets_hold, restarts_hold, rings_are_read, senses_hold,
     sweeps_hold, takes_hold, tickets_are_added,
 };
-pub use space_laws::{block_is_built, places_are_free, space_is_owned, tickets_are_built};
+pub use space_laws::{
+    block_is_built, builds_add, builds_hold, places_are_free, space_is_owned, tickets_are_built,
+};

@@ -1,6 +1,7 @@
 //! Laws of what Build takes and writes. Each function does nothing; its contract is the law.
 
 ghost use Rattle.word_owners.specs.BuiltBlocks.{BlockBuilt};
+ghost use Rattle.word_owners.specs.Builds.{BuildAdds, BuildsHold};
 ghost use Rattle.word_owners.specs.BuiltTickets.{TicketsBuilt};
 ghost use Rattle.word_owners.specs.FreePlaces.{PlacesFree};
 ghost use Rattle.word_owners.specs.Spaces.{BuffersOwned, BuildOwns, FreeOwns, OpeningOwns, StaysOwned};
@@ -33,4 +34,15 @@ pub fn places_are_free()
 /// depth: what the invariant asks of live tickets, and what they own of the buffer region, goes on.
 pub fn tickets_are_built()
     ensures { TicketsBuilt }
+{}
+
+/// Build adds one ticket to the desk, and below the buffer region writes its block alone, as the invariant asks for it.
+pub fn builds_add()
+    ensures { BuildAdds }
+{}
+
+/// An accepted line keeps the invariant, wherever the chip is or stands in a stop: where of no unit more tickets live than
+/// its depth, and live tickets own their parts of the buffer region; and it keeps both.
+pub fn builds_hold()
+    ensures { BuildsHold }
 {}
