@@ -54,3 +54,5 @@ pub mod BuiltTickets
 pub mod Additions
 pub mod BuiltMemory
 pub mod Builds
+pub mod KeptDesks
+pub mod Worlds

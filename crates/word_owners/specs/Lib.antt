@@ -19,3 +19,5 @@ pub mod BuiltBlocks
 pub mod FreePlaces
 pub mod BuiltTickets
 pub mod Builds
+pub mod KeptDesks
+pub mod Worlds

@@ -3,6 +3,7 @@
 ghost use Rattle.word_owners.specs.Additions.{AddHolds};
 ghost use Rattle.word_owners.specs.BenchSteps.{BenchStepsHold};
 ghost use Rattle.word_owners.specs.Readings.{RingsAreRead};
+ghost use Rattle.word_owners.specs.Worlds.{WordsAreOwned};
 ghost use Rattle.word_owners.specs.Laws.{FixHolds, FreeHolds, HoldsOpened, JobHolds, LinkHolds, MarkHolds, QueueHolds, ResetHolds, RestartHolds, SenseHolds, SignalHolds, SweepHolds, TakeHolds, UnlinkHolds};
 
 /// The invariant holds at the opening of a bench of at most 16 units: the chip stands at START, both rings are empty and
@@ -91,4 +92,11 @@ pub fn rings_are_read()
 /// built: every other ticket and all memory beside the block and the buffer region are as before.
 pub fn tickets_are_added()
     ensures { AddHolds }
+{}
+
+/// Who owns each word: the invariant holds in every world of every run, whatever the rig and the work, with units that break
+/// the rules, aborts and resets, for every word by which a target chooses; and each unit's target answers selections
+/// exactly where the unit isn't absent. The commands of the work are of bytes.
+pub fn words_are_owned()
+    ensures { WordsAreOwned }
 {}

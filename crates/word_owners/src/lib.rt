@@ -12,8 +12,9 @@ pub use chip_laws::{
 pub use laws::{
     aborts_hold, bench_steps_hold, device_resets_hold, fixes_hold, frees_hold, links_hold,
     opening_holds, queues_hold, resets_hold, restarts_hold, rings_are_read, senses_hold,
-    sweeps_hold, takes_hold, tickets_are_added,
+    sweeps_hold, takes_hold, tickets_are_added, words_are_owned,
 };
 pub use space_laws::{
-    block_is_built, builds_add, builds_hold, places_are_free, space_is_owned, tickets_are_built,
+    block_is_built, builds_add, builds_hold, desks_are_kept, places_are_free, space_is_owned,
+    tickets_are_built,
 };

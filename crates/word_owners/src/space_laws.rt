@@ -4,6 +4,7 @@ ghost use Rattle.word_owners.specs.BuiltBlocks.{BlockBuilt};
 ghost use Rattle.word_owners.specs.Builds.{BuildAdds, BuildsHold};
 ghost use Rattle.word_owners.specs.BuiltTickets.{TicketsBuilt};
 ghost use Rattle.word_owners.specs.FreePlaces.{PlacesFree};
+ghost use Rattle.word_owners.specs.KeptDesks.{DesksKept};
 ghost use Rattle.word_owners.specs.Spaces.{BuffersOwned, BuildOwns, FreeOwns, OpeningOwns, StaysOwned};
 
 /// Live tickets own parts of the buffer region: each piece of a buffer lies in a chunk that is out of the desk's space, and
@@ -45,4 +46,10 @@ pub fn builds_add()
 /// its depth, and live tickets own their parts of the buffer region; and it keeps both.
 pub fn builds_hold()
     ensures { BuildsHold }
+{}
+
+/// Each step of the bench but Build that is enabled keeps that of no unit more tickets live than its depth, and that live
+/// tickets own their parts of the buffer region.
+pub fn desks_are_kept()
+    ensures { DesksKept }
 {}
