@@ -99,15 +99,15 @@ fetches m r a s e al h =
     rw (s, x, y, z) refl
 
 -- instruction j of these from address a on
-record IsAtChain (p : Point) (a : ℕ) (ops : List Op) (j : ℕ) (op : Op) (w : World) : Type 0 where
-  spells : Spells (word_at w.memory) a ops
-  inside : j < length ops
-  is : slice_index_or ops j Nop ≡ op
-  place : (about p).place ≡ a + 8 * j
-  aligned : a % 4 ≡ 0
-  from : 0x8000 ≤ a
-  below : a + 8 * j < 0x9000
-  two : has_third (table_row op).first ≡ false
+pub record IsAtChain (p : Point) (a : ℕ) (ops : List Op) (j : ℕ) (op : Op) (w : World) : Type 0 where
+  pub spells : Spells (word_at w.memory) a ops
+  pub inside : j < length ops
+  pub is : slice_index_or ops j Nop ≡ op
+  pub place : (about p).place ≡ a + 8 * j
+  pub aligned : a % 4 ≡ 0
+  pub from : 0x8000 ≤ a
+  pub below : a + 8 * j < 0x9000
+  pub two : has_third (table_row op).first ≡ false
 
 module _ (version : ℕ) (units : List RigUnit) (p : Point) (c : Counts) (w : World) (h : Holds version units (Running p) c w) (new : World) (word : ℕ) (answer : Reply) (run : RunsChip w word answer new) (a : ℕ) (ops : List Op) (j : ℕ) (op : Op) (i : IsAtChain p a ops j op w) where
   abbrev f : Regs
@@ -116,7 +116,7 @@ module _ (version : ℕ) (units : List RigUnit) (p : Point) (c : Counts) (w : Wo
   dsp-is : w.regs.dsp ≡ a + 8 * j
   dsp-is = h.stays.3 ∙ i.place
 
-  stands-here : IsAt (chip_of w) op
+  pub stands-here : IsAt (chip_of w) op
   stands-here =
       let z : ℕ = third_at w.memory w.regs in
       subst (λ (o : Op). IsAt (chip_of w) o) i.is
@@ -159,7 +159,7 @@ by-test (Some false) d how r old end new e t = let z : false ≡ d = cc in inr (
 some-targets : (us : List RigUnit) → 0 < length (target_ops us)
 some-targets us = omega (arith, length-append (map (λ (t : ℕ). jump_if t (target_chain t)) (targets us)) (Int Always 0x0A ∷ []))
 
-jump-two : (v to : ℕ) → v < 8 → has_third (table_row (jump_if v to)).first ≡ false
+pub jump-two : (v to : ℕ) → v < 8 → has_third (table_row (jump_if v to)).first ≡ false
 jump-two v to h =
     let e : (table_row (jump_if v to)).first / 16777216 ≡ 128 = omega arith in
     let f : nat_eq ((table_row (jump_if v to)).first / 16777216) 0xc0 ≡ false = grind (arith, nat_tests) in
@@ -175,7 +175,7 @@ module _ (version : ℕ) (units : List RigUnit) (c : Counts) (w new : World) (wo
   -- ---- the chain of the targets
 
   module _ (r j : ℕ) (h : Holds version units (Running (InTargets r j)) c w) where
-    in-targets : (op : Op) → slice_index_or (target_ops us) j Nop ≡ op → has_third (table_row op).first ≡ false → IsAtChain (InTargets r j) CHAINS (target_ops us) j op w
+    pub in-targets : (op : Op) → slice_index_or (target_ops us) j Nop ≡ op → has_third (table_row op).first ≡ false → IsAtChain (InTargets r j) CHAINS (target_ops us) j op w
     in-targets op e two =
         let m = target_ops-most us in
         record { spells = h.parts.chains.targets_laid; inside = h.works.extra.1; is = e; place = refl; aligned = refl; from = omega arith; below = omega (arith, m, h.works.extra.1); two = two }
@@ -233,7 +233,7 @@ module _ (version : ℕ) (units : List RigUnit) (c : Counts) (w new : World) (wo
   -- ---- the chain of a target
 
   module _ (r j : ℕ) (h : Holds version units (Running (InLuns r j)) c w) where
-    in-luns : (op : Op) → slice_index_or (lun_ops us r) j Nop ≡ op → has_third (table_row op).first ≡ false → IsAtChain (InLuns r j) (target_chain r) (lun_ops us r) j op w
+    pub in-luns : (op : Op) → slice_index_or (lun_ops us r) j Nop ≡ op → has_third (table_row op).first ≡ false → IsAtChain (InLuns r j) (target_chain r) (lun_ops us r) j op w
     in-luns op e two =
         let m = lun_ops-most us r in
         record {

@@ -56,3 +56,4 @@ pub mod BuiltMemory
 pub mod Builds
 pub mod KeptDesks
 pub mod Worlds
+pub mod BufferWrites

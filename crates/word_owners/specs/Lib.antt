@@ -21,3 +21,4 @@ pub mod BuiltTickets
 pub mod Builds
 pub mod KeptDesks
 pub mod Worlds
+pub mod BufferWrites

@@ -1,5 +1,6 @@
 //! Laws of the chip's steps that ask the bus. Each function does nothing; its contract is the law.
 
+ghost use Rattle.word_owners.specs.BufferWrites.{OnlyDataMovesWrite};
 ghost use Rattle.word_owners.specs.Buffers.{BuffersApart, DataStayInBuffers, PointersStayInBuffers};
 ghost use Rattle.word_owners.specs.Answering.{AnsweringOpens, AnsweringStays};
 ghost use Rattle.word_owners.specs.DataMoves.{DataMovesHold};
@@ -19,11 +20,13 @@ pub fn pointers_stay_in_buffers()
     ensures { PointersStayInBuffers }
 {}
 
-/// A step at a data move changes a byte only where its ticket has it in its buffer, or in the sense area of its block
-/// from its Sense step on, and only while the target of the ticket's unit is connected; DSA is the block of that live
-/// ticket, and all that the move's entry names is the ticket's. Two live tickets share no byte.
+/// Of the steps of the chip only those at data moves change a byte of the buffer region. A step at a data move changes a
+/// byte only where its ticket has it in its buffer, or in the sense area of its block from its Sense step on, and only
+/// while the target of the ticket's unit is connected; DSA is the block of that live ticket, and all that the move's entry
+/// names is the ticket's. Two live tickets share no byte.
 pub fn data_stay_in_buffers()
     ensures moves { DataStayInBuffers }
+    ensures only { OnlyDataMovesWrite }
     ensures apart { BuffersApart }
 {}
 
