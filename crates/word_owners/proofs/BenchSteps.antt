@@ -5,7 +5,6 @@ use Rattle.rig_types.specs.declared.step.Step.TheVariants as step
 use Rattle.world_law.specs.ChipSteps.{RunsChip}
 use Rattle.world_law.specs.World.{World}
 use Rattle.world_law.specs.declared.reply.Reply.{Reply}
-use Rattle.world_law.specs.declared.reply.Stop.{Stop}
 use Rattle.world_law.specs.declared.reply.Stop.TheVariants as stop
 use Rattle.word_owners.specs.Answering.{AreAnswering}
 use Rattle.word_owners.specs.BenchSteps.{IsOwned, BenchStepsHold}

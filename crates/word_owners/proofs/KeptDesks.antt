@@ -1,5 +1,5 @@
 -- Each step of the bench but Build keeps how many tickets of a unit live, and what they own of the buffer region.
-use Rattle.std.proofs.Common.{arith, ◌≡◌, ◌≢◌, ◌⊎◌, inl, inr, ⊎_elim, ℕ, ◌+◌, ◌<◌, ◌≤◌, ◌==◌, ◌&&◌, ◌||◌, Bool, true, false, cond, not, List, length, Option, Some, None, nat_le, refl, sym, ap, subst, ◌∙◌, get_or, set, get_or-set_same, get_or-set_other}
+use Rattle.std.proofs.Common.{arith, ◌≡◌, ◌≢◌, ◌⊎◌, inl, inr, ℕ, ◌+◌, ◌<◌, ◌≤◌, ◌==◌, ◌&&◌, ◌||◌, Bool, true, false, cond, not, List, length, Option, Some, None, refl, sym, ap, subst, ◌∙◌, get_or, set, get_or-set_same, get_or-set_other}
 use Rattle.std.specs.Prelude.{count_by, filter, slice_get}
 use Rattle.std.proofs.lemmas.Bool.{cases_lt}
 use Rattle.std.proofs.lemmas.Bool.Decides.{nat_tests}
@@ -9,7 +9,6 @@ use Rattle.rig_types.specs.declared.rig.Unit.{Unit as RigUnit}
 use Rattle.rig_types.specs.declared.acts.Act.{Act}
 use Rattle.rig_types.specs.declared.acts.ActKind.{ActKind}
 use Rattle.rig_types.specs.declared.acts.ActKind.TheVariants.{Abort, Device, Bus}
-use Rattle.rig_types.specs.declared.step.Step.{Step}
 use Rattle.rig_types.specs.declared.step.Step.TheVariants as step
 use Rattle.host_map.specs.declared.TheConstants.{FRONT_IDLE}
 use Rattle.cmd_block.specs.declared.TheConstants.{LIVE}
@@ -18,7 +17,6 @@ use Rattle.chip_regs.specs.declared.registers.Cause.{Cause}
 use Rattle.chip_regs.specs.declared.registers.Cause.TheVariants.{Sir, Iid, Bf, Ma, Udc, Rst, Sto}
 use Rattle.desk_law.specs.declared.stage.Stage.{Stage}
 use Rattle.desk_law.specs.declared.stage.Stage.TheVariants as stage
-use Rattle.desk_law.specs.declared.ticket.Piece.{Piece}
 use Rattle.desk_law.specs.declared.ticket.Ticket.{Ticket}
 use Rattle.desk_law.specs.Desk.{DeskState, ticket, unit, no_ticket, no_unit, is_freed, is_queued, is_sensing, lives, is_of_unit}
 use Rattle.desk_law.specs.Rings.{passed, done_ticket}
@@ -28,12 +26,12 @@ use Rattle.world_law.specs.declared.reply.Decided.TheVariants as line
 use Rattle.world_law.specs.declared.reply.Reply.{Reply}
 use Rattle.world_law.specs.declared.reply.Stop.{Stop}
 use Rattle.world_law.specs.declared.reply.Stop.TheVariants as stop
-use Rattle.world_law.specs.World.{BenchSetting, World, front, decided}
+use Rattle.world_law.specs.World.{World, front, decided}
 use Rattle.world_law.specs.Acts.{ActsOf, acts_by, aborts, marks, device_resets, bus_resets, is_late}
-use Rattle.world_law.specs.Enabling.{Enabled, IsEnded, MayQueue}
-use Rattle.world_law.specs.Steps.{Does, TakesOf}
-use Rattle.world_law.specs.Stops.{to_sweep, is_clear, is_tails, loses, job_target, is_done_by, is_ended_by_script}
-use Rattle.word_owners.specs.Spaces.{no_piece, OwnsSpace}
+use Rattle.world_law.specs.Enabling.{IsEnded, MayQueue}
+use Rattle.world_law.specs.Steps.{TakesOf}
+use Rattle.world_law.specs.Stops.{to_sweep, is_clear, is_tails, loses, is_done_by}
+use Rattle.word_owners.specs.Spaces.{OwnsSpace}
 use Rattle.word_owners.specs.FreePlaces.{HasDepths}
 use Rattle.word_owners.specs.KeptDesks.{AreKept, DesksKept}
 use Rattle.word_owners.proofs.Spaces.{stays_owned}

@@ -1,5 +1,5 @@
 -- The invariant holds in every world of a run, from the opening on.
-use Rattle.std.proofs.Common.{◌≡◌, ℕ, List, length, [], ◌∷◌, Bool, true, false, refl, sym, ap, subst, ◌∙◌, arith, Option, Some, None}
+use Rattle.std.proofs.Common.{◌≡◌, ℕ, List, length, [], ◌∷◌, Bool, true, false, refl, sym, subst, arith, Option, Some, None}
 use Rattle.rig_types.specs.declared.commands.Command.{Command}
 use Rattle.rig_types.specs.declared.rig.Unit.{Unit as RigUnit}
 use Rattle.unit_law.specs.Request.{plain}
@@ -20,12 +20,9 @@ use Rattle.world_law.specs.declared.reply.Reply.TheVariants as reply
 use Rattle.word_owners.specs.Answering.{AreAnswering}
 use Rattle.word_owners.specs.BenchSteps.{IsOwned, is_build}
 use Rattle.word_owners.specs.Builds.{IsOfBytes}
-use Rattle.word_owners.specs.BuiltTickets.{AreBuilt}
-use Rattle.word_owners.specs.FreePlaces.{HasDepths}
 use Rattle.word_owners.specs.Holds.{Spot, Holds}
 use Rattle.word_owners.specs.KeptDesks.{AreKept}
 use Rattle.word_owners.specs.Parts.{Counts}
-use Rattle.word_owners.specs.Spaces.{OwnsSpace}
 use Rattle.word_owners.specs.Worlds.{HasBytes, WordsAreOwned}
 use Rattle.word_owners.proofs.Answering.{answering-room}
 use Rattle.word_owners.proofs.BenchSteps.{bench_steps_hold}

@@ -22,3 +22,4 @@ pub mod Builds
 pub mod KeptDesks
 pub mod Worlds
 pub mod BufferWrites
+pub mod BufferRuns

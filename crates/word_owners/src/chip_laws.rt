@@ -1,5 +1,6 @@
 //! Laws of the chip's steps that ask the bus. Each function does nothing; its contract is the law.
 
+ghost use Rattle.word_owners.specs.BufferRuns.{RunsKeepBuffers};
 ghost use Rattle.word_owners.specs.BufferWrites.{OnlyDataMovesWrite};
 ghost use Rattle.word_owners.specs.Buffers.{BuffersApart, DataStayInBuffers, PointersStayInBuffers};
 ghost use Rattle.word_owners.specs.Answering.{AnsweringOpens, AnsweringStays};
@@ -52,4 +53,11 @@ pub fn answering_opens()
 /// the end of a device reset.
 pub fn stops_are_handled()
     ensures { StopsAreHandled }
+{}
+
+/// In every world of every run over a rig, with units that break the rules, aborts and resets: both data pointers of each
+/// live ticket denote a suffix of what it moves, two live tickets move no byte in common, and a step of the chip changes a
+/// byte of the buffer region only by the data move of a live ticket, which changes bytes of that ticket alone.
+pub fn runs_keep_buffers()
+    ensures { RunsKeepBuffers }
 {}

@@ -7,7 +7,7 @@ mod space_laws;
 
 pub use chip_laws::{
     answering_opens, answering_stays, chip_steps_hold, data_moves_hold, data_stay_in_buffers,
-    pointers_stay_in_buffers, stops_are_handled,
+    pointers_stay_in_buffers, runs_keep_buffers, stops_are_handled,
 };
 pub use laws::{
     aborts_hold, bench_steps_hold, device_resets_hold, fixes_hold, frees_hold, links_hold,
