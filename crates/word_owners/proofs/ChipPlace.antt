@@ -2,6 +2,7 @@
 use Rattle.std.proofs.Common.{◌≡◌, inl, inr, ℕ, ◌+◌, ◌-◌, ◌%◌, ◌≤◌, List, length, refl, sym, ap, subst, ◌∙◌, arith, Option, Some, None}
 use Rattle.bench_words.specs.Memory.{word_at}
 use Rattle.bench_words.specs.Bytes.{IsBytes}
+use Rattle.rig_types.specs.declared.report.Report.{Report}
 use Rattle.rig_types.specs.declared.rig.Unit.{Unit as RigUnit}
 use Rattle.host_map.specs.declared.TheConstants.{FRONT, DONEP}
 use Rattle.host_map.specs.Places.{start_slot, done_slot}
@@ -17,6 +18,8 @@ use Rattle.phase_fix.specs.Remain.{count_of, address_of}
 use Rattle.chip_regs.specs.declared.registers.Regs.{Regs}
 use Rattle.bus_law.specs.Bus.{BusState}
 use Rattle.desk_law.specs.Desk.{DeskState}
+use Rattle.world_law.specs.declared.reply.Decided.{Decided}
+use Rattle.world_law.specs.declared.reply.Reply.{Reply}
 use Rattle.world_law.specs.declared.reply.Stop.{Stop}
 use Rattle.world_law.specs.World.{World}
 use Rattle.word_owners.specs.Tickets.{Tickets, tickets_of, AreTickets, AreChecked, block_of, target_of}
@@ -212,4 +215,25 @@ quiet_holds version units s c w n h e = record {
   works = h.works;
   stays = stays-regs w.regs n e s w.stop w.resume (word_at w.memory) (tickets_of w.desk) c h.stays;
   linked = linked-regs w.regs n e (link_at s) (tickets_of w.desk) w.bus h.linked;
+}
+
+-- lines, answers to acts and reports stand beside the invariant
+pub told : (version : ℕ) (units : List RigUnit) (s : Spot) (c : Counts) (w : World) (lines : List (List Decided)) (acts : List Reply) (reports : List Report) → Holds version units s c w
+    → Holds version units s c (record w { lines = lines; acts = acts; reports = reports })
+told version units s c w lines acts reports h = record {
+  size = h.size;
+  bytes = h.bytes;
+  units_are = h.units_are;
+  few_units = h.few_units;
+  version_is = h.version_is;
+  tickets = h.tickets;
+  checked = h.checked;
+  put = h.put;
+  take = h.take;
+  parts = h.parts;
+  tags = h.tags;
+  donep = h.donep;
+  works = h.works;
+  stays = h.stays;
+  linked = h.linked;
 }

@@ -34,6 +34,7 @@ use Rattle.word_owners.specs.Holds.{Spot, Holds}
 use Rattle.word_owners.specs.BenchSteps.{IsOwned}
 use Rattle.word_owners.proofs.Answering.{answering-room, answering-reset}
 use Rattle.word_owners.proofs.Aborts.{mark_holds}
+use Rattle.word_owners.proofs.ChipPlace.{told}
 use Rattle.word_owners.proofs.DoneTaken.{take_holds}
 use Rattle.word_owners.proofs.Fixes.{fix_holds}
 use Rattle.word_owners.proofs.Frees.{free_holds}
@@ -63,23 +64,7 @@ module _ (version : ℕ) (units : List RigUnit) where
 
   -- what was answered to the acts is no part of it
   acted : (s : Spot) (c : Counts) (w : World) (acts : List Reply) → Holds version units s c w → Holds version units s c (record w { acts = acts })
-  acted s c w acts h = record {
-    size = h.size;
-    bytes = h.bytes;
-    units_are = h.units_are;
-    few_units = h.few_units;
-    version_is = h.version_is;
-    tickets = h.tickets;
-    checked = h.checked;
-    put = h.put;
-    take = h.take;
-    parts = h.parts;
-    tags = h.tags;
-    donep = h.donep;
-    works = h.works;
-    stays = h.stays;
-    linked = h.linked;
-  }
+  acted s c w acts h = told version units s c w w.lines acts w.reports h
 
   may-queue : (w : World) (caller : ℕ) (k : Ticket) (x : Stage) → MayQueue w caller k x → (x ≡ stage.Linked) ⊎ (x ≡ stage.Again)
   may-queue w caller k stage.Built m = absurd m

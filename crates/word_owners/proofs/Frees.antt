@@ -22,7 +22,7 @@ use Rattle.word_owners.proofs.Frames.{same_or}
 use Rattle.word_owners.proofs.StageChanges.{Turns, staged, Aside, aside, live-before, tickets-turned, start-turned, done-turned, front-turned, answered-turned, works-turned, work-kept, to-other}
 use Rattle.word_owners.proofs.WriteFrames.{fresh-live}
 use Rattle.word_owners.proofs.Lists.{desk-turns, desk-staged, desk-checked, same-fixed}
-use Rattle.word_owners.proofs.ChipPlace.{patched, entries-at}
+use Rattle.word_owners.proofs.ChipPlace.{entries-at, patched, told}
 use Rattle.word_owners.proofs.Patches.{idle-worker, idle-gate}
 
 module _ (version : ℕ) (w : ℕ → ℕ) (ts : Tickets) (c : Counts) (o : Option ℕ) (new : ℕ → Stage) (t : ℕ) (turns : Turns ts.stage new t stage.Freed) (live : IsLive (ts.stage t)) where
@@ -69,26 +69,6 @@ module _ (version : ℕ) (w : ℕ → ℕ) (ts : Tickets) (c : Counts) (o : Opti
   work-freed k g ne h = work-kept w ts new t stage.Freed turns k c
       (λ u l. elim (same_or u t) [ inl z ↦ inr (ap (λ (i : ℕ). field w (block_of ts i) Gate) z ∙ g) | inr z ↦ inl (to-other w ts new t stage.Freed turns IsLive u z l) ]) ne h
 
--- the reports stand beside the invariant
-told : (version : ℕ) (units : List RigUnit) (s : Spot) (c : Counts) (w : World) (reports : List Report) → Holds version units s c w → Holds version units s c (record w { reports = reports })
-told version units s c w reports h = record {
-  size = h.size;
-  bytes = h.bytes;
-  units_are = h.units_are;
-  few_units = h.few_units;
-  version_is = h.version_is;
-  tickets = h.tickets;
-  checked = h.checked;
-  put = h.put;
-  take = h.take;
-  parts = h.parts;
-  tags = h.tags;
-  donep = h.donep;
-  works = h.works;
-  stays = h.stays;
-  linked = h.linked;
-}
-
 closed : (w : ℕ → ℕ) (b : ℕ) → (field w b Gate ≡ 0x1B0) ⊎ (field w b Gate ≡ 0x1C0) → field w b Gate ≢ 0x1B0 → field w b Gate ≡ 0x1C0
 closed w b (inl e) shut = absurd (shut e)
 closed w b (inr e) shut = e
@@ -127,4 +107,4 @@ free_holds version units s c w new t answer b r h =
     let whole : new ≡ record w { desk = desk; reports = new.reports } =
     r.world ∙ ap (λ (x : DeskState). record w { desk = x; reports = w.reports ++ report_at d w.memory t ∷ [] }) r.frees.desk
     ∙ ap (λ (x : List Report). record w { desk = desk; reports = x }) (sym (ap (λ (x : World). x.reports) r.world)) in
-    subst (Holds version units s c) (sym whole) (told version units s c (record w { desk = desk }) new.reports made)
+    subst (Holds version units s c) (sym whole) (told version units s c (record w { desk = desk }) w.lines w.acts new.reports made)

@@ -27,6 +27,7 @@ use Rattle.word_owners.specs.Worlds.{HasBytes, WordsAreOwned}
 use Rattle.word_owners.proofs.Answering.{answering-room}
 use Rattle.word_owners.proofs.BenchSteps.{bench_steps_hold}
 use Rattle.word_owners.proofs.Builds.{builds_hold}
+use Rattle.word_owners.proofs.ChipPlace.{told}
 use Rattle.word_owners.proofs.KeptDesks.{desks_kept}
 use Rattle.word_owners.proofs.OpenedTargets.{answering_opens}
 use Rattle.word_owners.proofs.Opening.{holds_opened}
@@ -37,26 +38,6 @@ record Whole (g : BenchSetting) (w : World) : Type 0 where
   owned : IsOwned g.version g.units w
   places : AreKept w.desk
 
--- what was decided of lines is no part of it
-lined : (version : ℕ) (units : List RigUnit) (s : Spot) (c : Counts) (w : World) (lines : List (List Decided)) → Holds version units s c w → Holds version units s c (record w { lines = lines })
-lined version units s c w lines h = record {
-  size = h.size;
-  bytes = h.bytes;
-  units_are = h.units_are;
-  few_units = h.few_units;
-  version_is = h.version_is;
-  tickets = h.tickets;
-  checked = h.checked;
-  put = h.put;
-  take = h.take;
-  parts = h.parts;
-  tags = h.tags;
-  donep = h.donep;
-  works = h.works;
-  stays = h.stays;
-  linked = h.linked;
-}
-
 module _ (g : BenchSetting) (setting : IsBenchSetting g) (bytes : HasBytes g) where
   of-made : (made new : World) → new ≡ made → Whole g made → Whole g new
   of-made made new e o = subst (Whole g) (sym e) o
@@ -64,7 +45,7 @@ module _ (g : BenchSetting) (setting : IsBenchSetting g) (bytes : HasBytes g) wh
   refuses-whole : (again : Bool) (w : World) (l : Line) (r : Refused) → Whole g w → Whole g (refuses again w l r)
   refuses-whole true w l r o = o
   refuses-whole false w l r o = record {
-    owned = record { spot = o.owned.spot; counts = o.owned.counts; holds = lined g.version g.units o.owned.spot o.owned.counts w _ o.owned.holds; answering = o.owned.answering };
+    owned = record { spot = o.owned.spot; counts = o.owned.counts; holds = told g.version g.units o.owned.spot o.owned.counts w _ w.acts w.reports o.owned.holds; answering = o.owned.answering };
     places = o.places;
   }
 
