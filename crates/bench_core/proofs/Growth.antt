@@ -1,6 +1,7 @@
--- A step makes at most one signal due, and at most one ticket; so neither is more than there are entries.
+-- A step makes at most one signal due, at most one ticket, and decides at most one line; so none of these is more than there are entries.
 use Rattle.std.proofs.Common.{arith, ◌≡◌, ◌<◌, ◌≤◌, Bool, true, false, ℕ, zero, suc, ◌+◌, ◌-◌, List, [], ◌∷◌, ◌++◌, length, map, replicate, slice_get, slice_set, slice_index_or, Option, Some, None, refl, sym, ap, subst, ◌∙◌, inl, inr}
 use Rattle.std.specs.List.{sum}
+use Rattle.std.proofs.lemmas.List.{length-append}
 use Rattle.std.proofs.lemmas.List.Sums.{sum_by-cons}
 use Rattle.rig_types.specs.declared.commands.Command.{Command}
 use Rattle.rig_types.specs.declared.acts.Act.{Act}
@@ -27,9 +28,9 @@ use Rattle.world_law.specs.Builds.{refuses, is_tried_again, BuildsBy, BuildsOf}
 use Rattle.world_law.specs.Acts.{is_late, marks, aborts, device_resets, bus_resets, acts_by, ActsOf}
 use Rattle.world_law.specs.Steps.{TakesOf, Does}
 use Rattle.world_law.specs.Runs.{Moment, IsRun, last, entries, built}
-use Rattle.world_law.proofs.Effects.{Effect, Counted, effect}
+use Rattle.world_law.proofs.Effects.{Effect, Counted, LinesGo, effect}
 use Rattle.bench_core.specs.Histories.{IsReplayed}
-use Rattle.bench_core.specs.Counting.{HasFew}
+use Rattle.bench_core.specs.Counting.{line_count, HasFew}
 
 -- at most one signal more is due
 abbrev OwesOneMore : DeskState → DeskState → Type 0
@@ -133,28 +134,50 @@ one-ticket-more old new number c = elim c [
   | inr x ↦ omega (arith, x.1)
 ]
 
-few-after : (g : BenchSetting) (ms : List Moment) (w : World) (n : ℕ) → IsRun g w ms → HasFew n w.desk → HasFew (n + length ms) (last w ms).desk
-few-after g [] w n r h = record { due = omega (arith, h.due); tickets = omega (arith, h.tickets) }
+lined : (ls : List Decided) (lss : List (List Decided)) → line_count (ls ∷ lss) ≡ length ls + line_count lss
+lined ls lss = sum_by-cons (λ (xs : List Decided). length xs) ls lss
+
+-- at most one line more is decided
+line-more : (lss : List (List Decided)) (s : ℕ) (x : Decided) → line_count (slice_set lss s (slice_index_or lss s [] ++ x ∷ [])) ≤ line_count lss + 1
+line-more [] s x = omega arith
+line-more (ls ∷ lss) zero x = omega (arith, lined ls lss, lined (ls ++ x ∷ []) lss, length-append ls (x ∷ []))
+line-more (ls ∷ lss) (suc s) x =
+    omega (arith, lined ls lss, lined ls (slice_set lss s (slice_index_or lss s [] ++ x ∷ [])), line-more lss s x)
+
+one-line-more : (g : BenchSetting) (caller : ℕ) (old new : World) → LinesGo g caller old new → line_count new.lines ≤ line_count old.lines + 1
+one-line-more g caller old new c = elim c [
+  | inl e ↦ omega (arith, ap (λ (lss : List (List Decided)). line_count lss) e)
+  | inr x ↦ omega (arith, ap (λ (lss : List (List Decided)). line_count lss) x.are, line-more old.lines caller x.decided)
+]
+
+few-after : (g : BenchSetting) (ms : List Moment) (w : World) (n : ℕ) → IsRun g w ms → HasFew n w → HasFew (n + length ms) (last w ms)
+few-after g [] w n r h = record { due = omega (arith, h.due); tickets = omega (arith, h.tickets); lines = omega (arith, h.lines) }
 few-after g (m ∷ ms) w n r h =
     let d : OwesOneMore w.desk m.after.desk = owes-one-more g w m.entry.caller m.entry.step m.reply m.after r.0.does in
-    let t : length m.after.desk.tickets ≤ length w.desk.tickets + 1 =
-    one-ticket-more w.desk.tickets m.after.desk.tickets (built m.reply) (effect g w m.entry.caller m.entry.step m.reply m.after r.0.enabled r.0.does).counted in
-    let next : HasFew (n + 1) m.after.desk = record { due = omega (arith, h.due, d); tickets = omega (arith, h.tickets, t) } in
-    let all : HasFew (n + 1 + length ms) (last m.after ms).desk = few-after g ms m.after (n + 1) r.1 next in
-    record { due = omega (arith, all.due); tickets = omega (arith, all.tickets) }
+    let x : Effect g m.entry.caller w m.reply m.after = effect g w m.entry.caller m.entry.step m.reply m.after r.0.enabled r.0.does in
+    let t : length m.after.desk.tickets ≤ length w.desk.tickets + 1 = one-ticket-more w.desk.tickets m.after.desk.tickets (built m.reply) x.counted in
+    let l : line_count m.after.lines ≤ line_count w.lines + 1 = one-line-more g m.entry.caller w m.after x.lines in
+    let next : HasFew (n + 1) m.after = record { due = omega (arith, h.due, d); tickets = omega (arith, h.tickets, t); lines = omega (arith, h.lines, l) } in
+    let all : HasFew (n + 1 + length ms) (last m.after ms) = few-after g ms m.after (n + 1) r.1 next in
+    record { due = omega (arith, all.due); tickets = omega (arith, all.tickets); lines = omega (arith, all.lines) }
 
 zeros : (n : ℕ) → sum (replicate n 0) ≡ 0
 zeros zero = refl
 zeros (suc n) = omega (arith, first-summed 0 (replicate n 0), zeros n)
 
-entries-length : (ms : List Moment) → length (entries ms) ≡ length ms
+no-lines : (n : ℕ) → line_count (replicate n []) ≡ 0
+no-lines zero = refl
+no-lines (suc n) = omega (arith, lined [] (replicate n []), no-lines n)
+
+pub entries-length : (ms : List Moment) → length (entries ms) ≡ length ms
 entries-length [] = refl
 entries-length (m ∷ ms) = omega (arith, entries-length ms)
 
-pub few_of : (g : BenchSetting) (es : List Entry) (w : World) → IsReplayed g es w → HasFew (length es) w.desk
+pub few_of : (g : BenchSetting) (es : List Entry) (w : World) → IsReplayed g es w → HasFew (length es) w
 few_of g es w h =
-    let start : HasFew 0 (opened g).desk = record { due = omega (arith, zeros (length g.submitters + 3)); tickets = omega arith } in
-    let all : HasFew (0 + length h.moments) (last (opened g) h.moments).desk = few-after g h.moments (opened g) 0 h.run start in
-    let here : HasFew (0 + length h.moments) w.desk = subst (λ (x : World). HasFew (0 + length h.moments) x.desk) h.world all in
+    let start : HasFew 0 (opened g) =
+    record { due = omega (arith, zeros (length g.submitters + 3)); tickets = omega arith; lines = omega (arith, no-lines (length g.submitters)) } in
+    let all : HasFew (0 + length h.moments) (last (opened g) h.moments) = few-after g h.moments (opened g) 0 h.run start in
+    let here : HasFew (0 + length h.moments) w = subst (λ (x : World). HasFew (0 + length h.moments) x) h.world all in
     let count : length es ≡ length h.moments = ap (λ (xs : List Entry). length xs) (sym h.are) ∙ entries-length h.moments in
-    record { due = omega (arith, here.due, count); tickets = omega (arith, here.tickets, count) }
+    record { due = omega (arith, here.due, count); tickets = omega (arith, here.tickets, count); lines = omega (arith, here.lines, count) }

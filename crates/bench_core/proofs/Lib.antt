@@ -1,12 +1,5 @@
-pub mod TicketLaws
-pub mod Stages
-pub mod StartRing
-pub mod Tails
-pub mod Sweeps
-pub mod Fixes
 pub mod Replays
 pub mod Growth
 pub mod Settled
-pub mod CountLaws
-pub mod Decided
-pub mod OneOpening
+pub mod Opened
+pub mod Answered

@@ -1,8 +1,8 @@
 -- Every ticket has one line: so the lines that are settled are those that were refused and as many as tickets are freed.
-use Rattle.std.proofs.Common.{arith, ◌≡◌, ◌<◌, Bool, true, false, not, cond, ℕ, zero, suc, ◌+◌, List, [], ◌∷◌, ◌++◌, length, replicate, slice_get, slice_set, slice_index_or, Option, Some, None, inl, inr, refl, sym, ap, subst, ◌∙◌}
+use Rattle.std.proofs.Common.{arith, ◌≡◌, ◌<◌, ◌≤◌, Bool, true, false, not, cond, ℕ, zero, suc, ◌+◌, List, [], ◌∷◌, ◌++◌, length, replicate, slice_get, slice_set, slice_index_or, Option, Some, None, inl, inr, refl, sym, ap, subst, ◌∙◌}
 use Rattle.std.specs.List.{sum_by, count_by, range_with_len}
 use Rattle.std.proofs.lemmas.List.{length-set, length-append, length-replicate}
-use Rattle.std.proofs.lemmas.List.Sums.{sum_by-set, sum_by-append, sum_by-cons}
+use Rattle.std.proofs.lemmas.List.Sums.{sum_by-set, sum_by-append, sum_by-cons, count_by-le-length}
 use Rattle.rig_types.specs.declared.commands.Command.{Command}
 use Rattle.rig_types.specs.declared.acts.Act.{Act}
 use Rattle.rig_types.specs.declared.acts.ActKind.{ActKind}
@@ -30,8 +30,10 @@ use Rattle.world_law.specs.Builds.{decides, refuses, is_tried_again, BuildsBy, B
 use Rattle.world_law.specs.Acts.{is_late, marks, aborts, device_resets, bus_resets, acts_by, ActsOf}
 use Rattle.world_law.specs.Steps.{TakesOf, Does}
 use Rattle.world_law.specs.Runs.{Moment, IsRun, last}
-use Rattle.bench_core.specs.Histories.{IsReplayed}
-use Rattle.bench_core.specs.Counting.{is_refused, refused_count, is_over, freed_count}
+use Rattle.bench_core.specs.Histories.{IsReplayed, IsBench}
+use Rattle.bench_core.specs.Counting.{line_count}
+use Rattle.bench_core.proofs.Growth.{few_of}
+use Rattle.bench_state.specs.Counting.{is_refused, refused_count, is_over, freed_count, IsCounted}
 
 -- ---- the lines of tickets that pass a test
 
@@ -269,3 +271,25 @@ settled_are g w h =
   where
     from-zero : (k : ℕ) → 0 + k ≡ k
     from-zero k = omega arith
+
+-- ---- they are at most as many as the entries
+
+some-of : (p : Decided → Bool) (lss : List (List Decided)) → sum_by (λ (ls : List Decided). count_by p ls) lss ≤ line_count lss
+some-of p [] = omega arith
+some-of p (ls ∷ lss) =
+    omega (
+      arith,
+      sum_by-cons (λ (xs : List Decided). count_by p xs) ls lss,
+      sum_by-cons (λ (xs : List Decided). length xs) ls lss,
+      count_by-le-length p ls,
+      some-of p lss,
+    )
+
+pub counted_of : (g : BenchSetting) (es : List Entry) (w : World) → IsReplayed g es w → length es ≤ 4194304 → IsCounted w
+counted_of g es w h few = record {
+  are = settled_are g w (lines_of_run g es w h);
+  few = omega (arith, some-of (is_settled w.desk) w.lines, (few_of g es w h).lines, few);
+}
+
+pub bench_counted : (g : BenchSetting) (es : List Entry) (w : World) (capacity : ℕ) → IsBench g es w capacity → IsCounted w
+bench_counted g es w capacity h = counted_of g es w h.replayed (omega (arith, h.within, h.limit))

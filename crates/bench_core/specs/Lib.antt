@@ -1,5 +1,2 @@
-pub mod States
-pub mod Held
 pub mod Histories
-pub mod Reading
 pub mod Counting

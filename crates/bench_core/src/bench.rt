@@ -1,17 +1,22 @@
 //! The bench: a world, and the list of the steps that led to it.
 
-ghost use Rattle.std.specs.Prelude.{◌≡◌, ◌<◌, ◌%◌, length, Some, slice_get};
+ghost use Rattle.std.specs.Prelude.{◌≡◌, ◌<◌, ◌%◌, ◌↔◌, IsTrue, IfOk, length, Some, slice_get};
 ghost use Rattle.bench_words.specs.Memory.{word_at};
 ghost use Rattle.chip_regs.specs.Registers.{cause_of};
 ghost use Rattle.world_law.specs.World.{decided};
 ghost use Rattle.world_law.specs.Lines.{drained};
-ghost use Rattle.bench_core.specs.Reading.{next_fetch};
+ghost use Rattle.world_law.specs.Enabling.{Enabled};
+ghost use Rattle.world_law.specs.Seeing.{seen};
+ghost use Rattle.bench_state.specs.States.{setting_of};
+ghost use Rattle.bench_state.specs.Reading.{next_fetch};
+ghost use Rattle.bench_core.specs.Histories.{opened_history};
 
-use crate::state::State;
+use bench_state::State;
 use chip_regs::Cause;
-use rig_types::{Entry, Line, Report};
+use rig_types::{Entry, Line, Report, Rig, Step, Work};
+use std::alloc::{AllocError, Global};
 use std::marker::Model;
-use world_law::{Decided, Reply};
+use world_law::{Decided, Reply, Seen};
 
 /// A rig and a work, the list of the steps that were made over them, and the world in which these left it. The list is
 /// lawful, and the world is that of the list.
@@ -33,6 +38,31 @@ impl Model for Bench {
 }
 
 impl Bench {
+    /// A bench over a rig and a work at its opening, with an empty list. It takes the memory of all its disks, and has
+    /// room for as many entries as the rig allows. Its one error is want of memory.
+    #[tactic(auto, using(crate::proofs::Opened::opens))]
+    pub fn open(alloc: Global, rig: Rig, work: Work) -> Result<Bench, AllocError>
+        ensures { IfOk result (λ b. b ≡ opened_history (setting_of rig work)) }
+    {
+        let entries = Vec::with_capacity(alloc, rig.step_limit as usize)?;
+        let state = State::open(alloc, rig, work)?;
+        Ok(Bench { state, entries })
+    }
+
+    /// Whether a caller may make a step.
+    pub fn is_enabled(&self, caller: u32, step: Step) -> bool
+        ensures { IsTrue result ↔ Enabled self.now.setting self.now.world caller step }
+    {
+        self.state.is_enabled(caller, step)
+    }
+
+    /// What a caller sees whose step isn't enabled.
+    pub fn seen(&self, caller: u32, step: Step) -> Seen
+        ensures { result ≡ seen self.now.setting self.now.world caller step }
+    {
+        self.state.seen(caller, step)
+    }
+
     /// How many entries the list has.
     pub fn length(&self) -> u32
         ensures { result ≡ length self.now.entries }

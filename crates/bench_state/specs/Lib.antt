@@ -1,0 +1,6 @@
+pub mod States
+pub mod Held
+pub mod Reading
+pub mod Counting
+pub mod Driving
+pub mod Making
