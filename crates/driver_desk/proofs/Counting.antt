@@ -9,7 +9,6 @@ use Rattle.rig_types.specs.Ranges.{depths}
 use Rattle.desk_law.specs.declared.ticket.Ticket.{Ticket}
 use Rattle.desk_law.specs.Desk.{no_ticket, no_unit, lives, is_of_unit}
 use Rattle.driver_desk.specs.Held.{core, at, less, more, Keyed, block_key, tag_key, IsCounted}
-use Rattle.driver_desk.specs.Conditions.{IsTaken}
 use Rattle.driver_desk.proofs.Keys.{lives-core}
 
 -- 1 where it passes
@@ -215,6 +214,9 @@ not_full us xs u e =
     omega (arith, less, count-core u xs, length-filter (is_of_unit u) xs)
 
 -- ---- places of which each has a ticket
+
+abbrev pub IsTaken : List (Option ℕ) → ℕ → Type 0
+IsTaken places n = IsSome (get_or places n None)
 
 abbrev held_at : List (Option ℕ) → ℕ → ℕ
 held_at o a = unwrap_or (get_or o a None) 0

@@ -13,10 +13,11 @@ use Rattle.desk_law.specs.Building.{first_free, tags}
 use Rattle.driver_desk.specs.declared.reporting.Room.{Room}
 use Rattle.driver_desk.specs.Kept.{IsTicket, IsIndex, IsDesk}
 use Rattle.driver_desk.specs.Held.{core, at, IsKept}
-use Rattle.driver_desk.specs.Conditions.{IsTaken, IsFirstFree, step_of}
+use Rattle.place_table.specs.Places.{IsLeastFree}
+use Rattle.driver_desk.specs.Conditions.{step_of}
 use Rattle.driver_desk.proofs.Keys.{at-core}
 use Rattle.driver_desk.proofs.Additions.{any-none, any-some, first-free}
-use Rattle.driver_desk.proofs.Counting.{by-some, not_full, some_room, all_blocks, all_tags}
+use Rattle.driver_desk.proofs.Counting.{IsTaken, by-some, not_full, some_room, all_blocks, all_tags}
 
 taken-by : (p : Ticket → Bool) (xs : List Ticket) (o : Option ℕ) → o ≡ position p xs → IsSome o → list_any p xs ≡ true
 taken-by p xs o e h = any-some p xs (unwrap_or o 0) (sym e ∙ by-some o h)
@@ -26,22 +27,22 @@ taken-by p xs o e h = any-some p xs (unwrap_or o 0) (sym e ∙ by-some o h)
 from-zero : (bb : List (Option ℕ)) (n : ℕ) → get_or bb (0 + n) None ≡ get_or bb n None
 from-zero bb n = let e : 0 + n ≡ n = omega arith in ap (λ (m : ℕ). get_or bb m None) e
 
-pub least_block : (bb bt : List (Option ℕ)) (xs : List Ticket) (n : ℕ) → IsIndex bb bt xs → IsFirstFree bb 0 1 n
+pub least_block : (bb bt : List (Option ℕ)) (xs : List Ticket) (n : ℕ) → IsIndex bb bt xs → IsLeastFree bb 0 1 n
     → first_free (λ (block : ℕ). list_any (has_block block) xs) (map block_at (range_with_len 0 256)) ≡ block_at n
 least_block bb bt xs n h f =
     first-free (λ (block : ℕ). list_any (has_block block) xs) block_at 256 n f.low
     (any-none (has_block (block_at n)) xs (sym (h.block n f.low) ∙ sym (from-zero bb n) ∙ f.free))
     (λ i less. taken-by (has_block (block_at i)) xs (get_or bb (0 + i) None) (from-zero bb i ∙ h.block i (omega (arith, less, f.low))) (f.least i less (omega arith)))
 
-free-of : (apart u n : ℕ) (bb bt : List (Option ℕ)) (xs : List Ticket) → IsIndex bb bt xs → u < 16 → IsFirstFree bt (256 * u) apart n → position (has_tag u n) xs ≡ None
+free-of : (apart u n : ℕ) (bb bt : List (Option ℕ)) (xs : List Ticket) → IsIndex bb bt xs → u < 16 → IsLeastFree bt (256 * u) apart n → position (has_tag u n) xs ≡ None
 free-of apart u n bb bt xs h few f = sym (h.tag u n few f.low) ∙ f.free
 
-taken-tag : (apart u n i : ℕ) (bb bt : List (Option ℕ)) (xs : List Ticket) → IsIndex bb bt xs → u < 16 → IsFirstFree bt (256 * u) apart n → i < n → i % apart ≡ 0
+taken-tag : (apart u n i : ℕ) (bb bt : List (Option ℕ)) (xs : List Ticket) → IsIndex bb bt xs → u < 16 → IsLeastFree bt (256 * u) apart n → i < n → i % apart ≡ 0
     → list_any (has_tag u i) xs ≡ true
 taken-tag apart u n i bb bt xs h few f less step =
     taken-by (has_tag u i) xs (get_or bt (256 * u + i) None) (h.tag u i few (omega (arith, less, f.low))) (f.least i less step)
 
-least-of : (b : Bool) (u n : ℕ) (bb bt : List (Option ℕ)) (xs : List Ticket) → IsIndex bb bt xs → u < 16 → IsFirstFree bt (256 * u) (cond b 1 4) n
+least-of : (b : Bool) (u n : ℕ) (bb bt : List (Option ℕ)) (xs : List Ticket) → IsIndex bb bt xs → u < 16 → IsLeastFree bt (256 * u) (cond b 1 4) n
     → first_free (λ (tag : ℕ). list_any (has_tag u tag) xs) (cond b (range_with_len 0 256) (map (λ (x : ℕ). 4 * x) (range_with_len 0 64))) ≡ n
 least-of true u n bb bt xs h few f =
     ap (λ (ns : List ℕ). first_free (λ (tag : ℕ). list_any (has_tag u tag) xs) ns) (sym (map-id (range_with_len 0 256)))
@@ -56,7 +57,7 @@ least-of false u n bb bt xs h few f =
     (λ i less. taken-tag 4 u n (4 * i) bb bt xs h few f (omega (arith, less, is)) (omega arith))
     ∙ is
 
-pub least_tag : (version u n : ℕ) (bb bt : List (Option ℕ)) (xs : List Ticket) → IsIndex bb bt xs → u < 16 → IsFirstFree bt (256 * u) (step_of version) n
+pub least_tag : (version u n : ℕ) (bb bt : List (Option ℕ)) (xs : List Ticket) → IsIndex bb bt xs → u < 16 → IsLeastFree bt (256 * u) (step_of version) n
     → first_free (λ (tag : ℕ). list_any (has_tag u tag) xs) (tags version) ≡ n
 least_tag version u n bb bt xs h few f = least-of (version == 2) u n bb bt xs h few f
 

@@ -69,17 +69,6 @@ pub record AreFor (d : DeskState) (chunks : List Chunk) (lens : List ℕ) : Type
 abbrev pub step_of : ℕ → ℕ
 step_of version = if version == 2 then 1 else 4
 
--- a ticket has the place
-abbrev pub IsTaken : List (Option ℕ) → ℕ → Type 0
-IsTaken places n = IsSome (slice_index_or places n None)
-
--- of 256 places from the first on, the least of a step that no ticket has
-pub record IsFirstFree (places : List (Option ℕ)) (first apart n : ℕ) : Type 0 where
-  pub low : n < 256
-  pub step : n % apart ≡ 0
-  pub free : slice_index_or places (first + n) None ≡ None
-  pub least : (i : ℕ) → i < n → i % apart ≡ 0 → IsTaken places (first + i)
-
 -- the ticket of an accepted request, with its tag, block and chunks
 abbrev pub built_ticket : Line → RequestData → (tag block : ℕ) → List Chunk → Ticket
 built_ticket l r tag block chunks = record {

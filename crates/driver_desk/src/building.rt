@@ -1,6 +1,6 @@
 //! The ticket of an accepted request.
 
-ghost use Rattle.std.specs.Prelude.{◌≡◌, ◌+◌, ◌≤◌, ◌<◌, ◌%◌, ℕ, length, slice_index_or, MatchOption, map, zip, All, IfOk};
+ghost use Rattle.std.specs.Prelude.{◌≡◌, ◌+◌, ◌≤◌, ◌<◌, length, slice_index_or, map, zip, All, IfOk};
 ghost use Rattle.host_map.specs.Places.{IsCommandBlock};
 ghost use Rattle.unit_law.specs.Request.{plain};
 ghost use Rattle.desk_law.specs.declared.ticket.Piece.{Piece};
@@ -8,7 +8,7 @@ ghost use Rattle.desk_law.specs.Blocks.{with_block, with_buffer};
 ghost use Rattle.desk_law.specs.Building.{piece};
 ghost use Rattle.driver_desk.specs.Kept.{total};
 ghost use Rattle.driver_desk.specs.Held.{less, more};
-ghost use Rattle.driver_desk.specs.Conditions.{built_ticket, IsTaken, IsFirstFree};
+ghost use Rattle.driver_desk.specs.Conditions.{built_ticket};
 
 use crate::blocks::{write_block, write_buffer};
 use crate::reporting::Room;
@@ -25,23 +25,6 @@ pub(crate) struct NewTicket {
     pub ticket: Ticket,
     /// The memory of its report.
     pub room: Room,
-}
-
-/// Of 256 places from the first on, the least that no ticket has, counted from the first. The step divides it.
-pub(crate) fn first_free(places: &[Option<u32>], first: usize, apart: usize) -> Option<usize>
-    requires places { first + 256 ≤ length places.now }
-    requires step { 0 < apart }
-    ensures { MatchOption result
-        ((n : ℕ) → n < 256 → n % apart ≡ 0 → IsTaken places.now (first + n))
-        (λ n. IsFirstFree places.now first apart n) }
-{
-    let mut found = None;
-    for n in 0..256 {
-        if found.is_none() && n % apart == 0 && places[first + n].is_none() {
-            found = Some(n);
-        }
-    }
-    found
 }
 
 /// The segments of a buffer, each at the start of its chunk.

@@ -1,6 +1,6 @@
 //! The desk.
 
-ghost use Rattle.std.specs.Prelude.{◌≡◌, ◌<◌, ◌≤◌, ◌+◌, ◌^◌, ◌==◌, ◌++◌, ℕ, List, map, length, true, false, Some, None, replicate, slice_get, IfOk, IfSome, IsSome, MatchOption, MatchResult};
+ghost use Rattle.std.specs.Prelude.{◌≡◌, ◌<◌, ◌≤◌, ◌+◌, ◌*◌, ◌^◌, ◌==◌, ◌++◌, ◌⊎◌, ℕ, List, map, length, true, false, Some, None, replicate, slice_get, IfOk, IfSome, IsSome, MatchOption, MatchResult};
 ghost use Rattle.std.specs.List.{list_any};
 ghost use Rattle.bench_words.specs.Memory.{word_at};
 ghost use Rattle.host_map.specs.declared.TheConstants.{RINGP, START_RING, DONE_RING};
@@ -21,7 +21,7 @@ ghost use Rattle.desk_law.specs.declared.stage.Stage.TheVariants.{Built, Check, 
 ghost use Rattle.driver_desk.specs.Conditions.{MayQueue, MayEnd, IsEnded, FaultOf, AreFor, step_of, next_done, answer_of};
 
 use crate::blocks::{begin_anew, has_status, is_marked, settle_ticket};
-use crate::building::{NewTicket, first_free, new_ticket, one_less, one_more, write_ticket};
+use crate::building::{NewTicket, new_ticket, one_less, one_more, write_ticket};
 use crate::fault::BuildFault;
 use crate::giving::{give_all, put_back};
 use crate::refusals::kind_of;
@@ -35,6 +35,7 @@ use host_map::{
     is_command_block,
 };
 use job_rings::{clear_done, put_start};
+use place_table::PlaceTable;
 use rig_types::{Line, Outcome, Report, Request, Rig, Unit, Work};
 use sense_job::turn;
 use std::alloc::{AllocError, Global};
@@ -61,8 +62,8 @@ pub struct Desk {
     autosense: bool,
     submitters: u16,
     tickets: Vec<Ticket>,
-    by_block: Vec<Option<u32>>,
-    by_tag: Vec<Option<u32>>,
+    by_block: PlaceTable,
+    by_tag: PlaceTable,
     rooms: Vec<Option<Room>>,
     live_counts: Vec<u16>,
     put: u32,
@@ -93,8 +94,8 @@ impl Model for Desk {
     } };
 
     ghost invariant = { λ d. IsDesk (length d.units.items) d.submitters d.retries d.put d.take (length d.due.items) d.tickets.items
-        × IsIndex d.by_block.items d.by_tag.items d.tickets.items
-        × IsKept d.version d.units.items d.retries d.by_block.items d.by_tag.items d.rooms.items d.live_counts.items d.region d.tickets.items };
+        × IsIndex d.by_block d.by_tag d.tickets.items
+        × IsKept d.version d.units.items d.retries d.by_block d.by_tag d.rooms.items d.live_counts.items d.region d.tickets.items };
 }
 
 /// No live ticket of so many units.
@@ -105,15 +106,12 @@ fn no_counts(alloc: Global, units: usize) -> Result<Vec<u16>, AllocError>
     Ok(counts)
 }
 
-/// So many places without a ticket.
-fn no_tickets(alloc: Global, places: u32) -> Result<Vec<Option<u32>>, AllocError>
-    ensures { IfOk result (λ v. v.items ≡ replicate places None) }
+/// So many groups of 256 places without a ticket.
+fn no_tickets(alloc: Global, groups: usize) -> Result<PlaceTable, AllocError>
+    requires { groups ≤ 16 }
+    ensures { IfOk result (λ t. t ≡ replicate (256 * groups) None) }
 {
-    let mut held = Vec::with_capacity(alloc, places as usize)?;
-    for _ in 0..places {
-        held.push(None)?;
-    }
-    Ok(held)
+    PlaceTable::new(alloc, groups)
 }
 
 /// No memory of reports, for each block.
@@ -150,8 +148,8 @@ impl Desk {
             autosense: rig.autosense,
             submitters: submitters as u16,
             tickets: Vec::new(alloc),
-            by_block: no_tickets(alloc, 256)?,
-            by_tag: no_tickets(alloc, 4096)?,
+            by_block: no_tickets(alloc, 1)?,
+            by_tag: no_tickets(alloc, 16)?,
             rooms: rooms(alloc)?,
             live_counts: no_counts(alloc, rig.units.as_slice().len())?,
             put: START_RING,
@@ -274,7 +272,7 @@ impl Desk {
         ensures { result ≡ ticket_of self.now unit tag }
     {
         if unit < 16 {
-            self.by_tag[256 * unit as usize + tag as usize]
+            self.by_tag.holder(256 * unit as usize + tag as usize)
         } else {
             None
         }
@@ -286,7 +284,8 @@ impl Desk {
         ensures { result ≡ ticket_at self.now block }
     {
         if is_command_block(block) {
-            self.by_block[((block - BLOCKS) / BLOCK_BYTES) as usize]
+            self.by_block
+                .holder(((block - BLOCKS) / BLOCK_BYTES) as usize)
         } else {
             None
         }
@@ -377,16 +376,16 @@ impl Desk {
         ensures place { IsCommandBlock result }
         ensures free { ticket_at self.now result ≡ None }
     {
-        match first_free(self.by_block.as_slice(), 0, 1) {
+        match self.by_block.least_free(0, 1) {
             Some(n) => block_at(n as u32),
             None => unreachable!(),
         }
     }
 
     /// The distance of two tags: in version 1 they are multiples of 4.
-    fn tag_step(&self) -> usize
+    fn tag_step(&self) -> u8
         ensures is { result ≡ step_of self.now.version }
-        ensures some { 0 < result }
+        ensures one { (result ≡ 1) ⊎ (result ≡ 4) }
     {
         if self.version == 2 { 1 } else { 4 }
     }
@@ -398,9 +397,8 @@ impl Desk {
         ensures least { result ≡ free_tag self.now unit }
         ensures free { ticket_of self.now unit result ≡ None }
     {
-        let first = 256 * unit as usize;
-        match first_free(self.by_tag.as_slice(), first, self.tag_step()) {
-            Some(tag) => tag as u8,
+        match self.by_tag.least_free(unit as usize, self.tag_step()) {
+            Some(tag) => tag,
             None => unreachable!(),
         }
     }
@@ -443,8 +441,8 @@ impl Desk {
         let place = ((ticket.block - BLOCKS) / BLOCK_BYTES) as usize;
         let key = 256 * unit as usize + ticket.tag as usize;
         self.tickets.push(ticket)?;
-        self.by_block[place] = Some(number);
-        self.by_tag[key] = Some(number);
+        self.by_block.hold(place, number);
+        self.by_tag.hold(key, number);
         self.rooms[place] = Some(room);
         one_more(&mut self.live_counts, unit);
         Ok(number)
@@ -684,8 +682,8 @@ impl Desk {
         };
         let report = report_of(words, t, k, room);
         give_all(&mut self.region, k.pieces.as_slice());
-        self.by_block[place] = None;
-        self.by_tag[256 * k.unit as usize + k.tag as usize] = None;
+        self.by_block.release(place);
+        self.by_tag.release(256 * k.unit as usize + k.tag as usize);
         one_less(&mut self.live_counts, k.unit);
         k.stage = Stage::Freed;
         report

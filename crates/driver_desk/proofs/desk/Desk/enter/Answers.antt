@@ -46,6 +46,6 @@ invariant_of-self-2 c =
     subst (λ (d : DeskState). (ticket_at d k.block ≡ None) × (ticket_of d r.unit k.tag ≡ None) × (k.tag < 256)) (sym c.self.view_is) c.in_ok-ticket.ensures.free in
     let number : c.ticket_count-number.result ≡ length seen.tickets =
     subst (λ (d : DeskState). c.ticket_count-number.result ≡ length d.tickets) (sym c.self.view_is) c.ticket_count-number.ensures in
-    rw (c.in_ok-push.ensures.items, number, c.one_more.ensures)
-    (entered seen c.self.inside.by_block.items c.self.inside.by_tag.items c.self.inside.rooms.items c.self.inside.live_counts.items c.args.line r c.args.chunks.now k
+    rw (c.in_ok-push.ensures.items, c.hold.ensures, c.hold-2.ensures, number, c.one_more.ensures)
+    (entered seen c.self.inside.by_block c.self.inside.by_tag c.self.inside.rooms.items c.self.inside.live_counts.items c.args.line r c.args.chunks.now k
     c.in_ok-ticket.field-0.room c.self.invariant few line kind full chunks c.args.r.now.whole made c.in_ok-ticket.ensures.place free c.in_ok-ticket.ensures.room)

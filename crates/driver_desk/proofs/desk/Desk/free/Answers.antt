@@ -92,5 +92,5 @@ invariant_of-self c =
     let f = facts _ _ _ _ _ _ _ _ _ _ _ _ _ c.args.t k c.index_mut.result.now c.self.invariant there c.index_mut-k.ensures.value unlinked c.index_mut.ensures.value in
     let others = subst (λ (ps : List Piece). (xs ys : List Chunk) → AreOut c.self.inside.region (xs ++ (piece_chunks ps ++ ys)) → AreOut c.give_all.new.region (xs ++ ys))
     c.as_slice.ensures c.give_all.ensures.others in
-    rw (c.take.ensures.after, c.one_less.ensures)
+    rw (c.take.ensures.after, c.release.ensures, c.release-2.ensures, c.one_less.ensures)
     (desk_freed _ _ _ _ _ _ _ _ _ _ _ _ _ _ _ c.args.t k c.self.invariant there c.index_mut-k.ensures.value f.live c.give_all.ensures.place others)

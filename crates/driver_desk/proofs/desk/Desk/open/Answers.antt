@@ -15,23 +15,23 @@ invariant_of-result c =
     subst (λ (us : List RigUnit). IsRig c.args.rig.now.version us c.args.rig.now.retries c.args.rig.now.step_limit) (sym units) c.args.rig.now.valid in
     let all : length c.in_ok-vec.field-0.items ≡ length c.as_slice-submitters.result.now + 3 = search rules in
     let none : c.new.result.items ≡ [] = c.new.ensures.items in
-    let blocks : c.in_ok-no_tickets.field-0.items ≡ replicate 256 None = c.in_ok-no_tickets.ensures in
-    let tags : c.in_ok-no_tickets-2.field-0.items ≡ replicate 4096 None = c.in_ok-no_tickets-2.ensures in
+    let blocks : c.in_ok-no_tickets.field-0 ≡ replicate 256 None = c.in_ok-no_tickets.ensures in
+    let tags : c.in_ok-no_tickets-2.field-0 ≡ replicate 4096 None = c.in_ok-no_tickets-2.ensures in
     let free : c.in_ok-rooms.field-0.items ≡ replicate 256 None = c.in_ok-rooms.ensures in
     let zeros : c.in_ok-no_counts.field-0.items ≡ replicate (length c.in_ok-from_slice.field-0.items) 0 =
     c.in_ok-no_counts.ensures ∙ ap (λ (us : List RigUnit). replicate (length us) 0) (c.as_slice-2.ensures ∙ sym units) in
-    let index : IsIndex c.in_ok-no_tickets.field-0.items c.in_ok-no_tickets-2.field-0.items [] =
-    subst (λ (bs : List (Option ℕ)). IsIndex bs c.in_ok-no_tickets-2.field-0.items []) (sym blocks)
+    let index : IsIndex c.in_ok-no_tickets.field-0 c.in_ok-no_tickets-2.field-0 [] =
+    subst (λ (bs : List (Option ℕ)). IsIndex bs c.in_ok-no_tickets-2.field-0 []) (sym blocks)
     (subst (λ (ts : List (Option ℕ)). IsIndex (replicate 256 None) ts []) (sym tags) index_of_none) in
-    let kept : IsKept c.args.rig.now.version c.in_ok-from_slice.field-0.items c.args.rig.now.retries c.in_ok-no_tickets.field-0.items c.in_ok-no_tickets-2.field-0.items
+    let kept : IsKept c.args.rig.now.version c.in_ok-from_slice.field-0.items c.args.rig.now.retries c.in_ok-no_tickets.field-0 c.in_ok-no_tickets-2.field-0
     c.in_ok-rooms.field-0.items c.in_ok-no_counts.field-0.items c.in_ok-new.field-0 [] =
-    subst (λ (bs : List (Option ℕ)). IsKept c.args.rig.now.version c.in_ok-from_slice.field-0.items c.args.rig.now.retries bs c.in_ok-no_tickets-2.field-0.items c.in_ok-rooms.field-0.items c.in_ok-no_counts.field-0.items c.in_ok-new.field-0 []) (sym blocks)
+    subst (λ (bs : List (Option ℕ)). IsKept c.args.rig.now.version c.in_ok-from_slice.field-0.items c.args.rig.now.retries bs c.in_ok-no_tickets-2.field-0 c.in_ok-rooms.field-0.items c.in_ok-no_counts.field-0.items c.in_ok-new.field-0 []) (sym blocks)
     (subst (λ (ts : List (Option ℕ)). IsKept c.args.rig.now.version c.in_ok-from_slice.field-0.items c.args.rig.now.retries (replicate 256 None) ts c.in_ok-rooms.field-0.items c.in_ok-no_counts.field-0.items c.in_ok-new.field-0 []) (sym tags)
     (subst (λ (rs : List (Option Room)). IsKept c.args.rig.now.version c.in_ok-from_slice.field-0.items c.args.rig.now.retries (replicate 256 None) (replicate 4096 None) rs c.in_ok-no_counts.field-0.items c.in_ok-new.field-0 []) (sym free)
     (subst (λ (ns : List ℕ). IsKept c.args.rig.now.version c.in_ok-from_slice.field-0.items c.args.rig.now.retries (replicate 256 None) (replicate 4096 None) (replicate 256 None) ns c.in_ok-new.field-0 []) (sym zeros)
     (kept_of_none c.args.rig.now.version c.in_ok-from_slice.field-0.items c.args.rig.now.retries c.args.rig.now.step_limit c.in_ok-new.field-0 r c.in_ok-new.ensures.place.0 c.in_ok-new.ensures.place.1)))) in
     subst (λ (xs : List Ticket). IsDesk (length c.in_ok-from_slice.field-0.items) (length c.as_slice-submitters.result.now) c.args.rig.now.retries 0x2000 0x3000
-    (length c.in_ok-vec.field-0.items) xs × IsIndex c.in_ok-no_tickets.field-0.items c.in_ok-no_tickets-2.field-0.items xs
-    × IsKept c.args.rig.now.version c.in_ok-from_slice.field-0.items c.args.rig.now.retries c.in_ok-no_tickets.field-0.items c.in_ok-no_tickets-2.field-0.items
+    (length c.in_ok-vec.field-0.items) xs × IsIndex c.in_ok-no_tickets.field-0 c.in_ok-no_tickets-2.field-0 xs
+    × IsKept c.args.rig.now.version c.in_ok-from_slice.field-0.items c.args.rig.now.retries c.in_ok-no_tickets.field-0 c.in_ok-no_tickets-2.field-0
     c.in_ok-rooms.field-0.items c.in_ok-no_counts.field-0.items c.in_ok-new.field-0 xs) (sym none)
     (desk_of_none (length c.in_ok-from_slice.field-0.items) (length c.as_slice-submitters.result.now) c.args.rig.now.retries (length c.in_ok-vec.field-0.items) r.few_units r.few_retries all, index, kept)
