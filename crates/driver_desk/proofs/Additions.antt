@@ -21,8 +21,8 @@ use Rattle.driver_desk.specs.declared.reporting.Room.{Room}
 use Rattle.driver_desk.specs.Kept.{total, IsTicket, IsIndex, IsDesk}
 use Rattle.driver_desk.specs.Held.{core, at, block_key, tag_key, piece_chunks, held_by, held, IsBuffer, HasRoom, more, IsHeld, IsKept}
 use Rattle.driver_desk.specs.Conditions.{AreFor}
-use Rattle.driver_desk.proofs.Counting.{counted-built}
-use Rattle.driver_desk.proofs.Freeing.{out-left}
+use Rattle.driver_desk.proofs.LiveCounts.{counted-built}
+use Rattle.driver_desk.proofs.FreedTickets.{out-left}
 use Rattle.driver_desk.proofs.Keys.{keyed-built, by_place, none-passes, not-none, lives-core, index_from}
 
 -- ---- the least free number

@@ -17,7 +17,7 @@ use Rattle.place_table.specs.Places.{IsLeastFree}
 use Rattle.driver_desk.specs.Conditions.{step_of}
 use Rattle.driver_desk.proofs.Keys.{at-core}
 use Rattle.driver_desk.proofs.Additions.{any-none, any-some, first-free}
-use Rattle.driver_desk.proofs.Counting.{IsTaken, by-some, not_full, some_room, all_blocks, all_tags}
+use Rattle.driver_desk.proofs.LiveCounts.{IsTaken, by-some, not_full, some_room, all_blocks, all_tags}
 
 taken-by : (p : Ticket → Bool) (xs : List Ticket) (o : Option ℕ) → o ≡ position p xs → IsSome o → list_any p xs ≡ true
 taken-by p xs o e h = any-some p xs (unwrap_or o 0) (sym e ∙ by-some o h)

@@ -324,7 +324,7 @@ impl Desk {
     }
 
     /// How many tickets of a unit live.
-    #[tactic(auto, using(crate::proofs::Counting::counted_live))]
+    #[tactic(auto, using(crate::proofs::LiveCounts::counted_live))]
     fn live_count(&self, unit: u8) -> u16
         requires { unit < length self.now.units }
         ensures { result ≡ live_count self.now unit }

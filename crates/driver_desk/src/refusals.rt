@@ -26,7 +26,7 @@ fn is_whole(cdb: &[u8]) -> bool
 }
 
 /// The need of a command whose descriptor block is whole.
-#[tactic(auto, using(crate::proofs::Refusing::whole_some, crate::proofs::Refusing::whole_length))]
+#[tactic(auto, using(crate::proofs::WholeDescriptors::whole_some, crate::proofs::WholeDescriptors::whole_length))]
 fn need_of(cdb: &[u8]) -> Need
     requires { is_whole_block cdb.now ≡ true }
     ensures { result ≡ need_of (cdb_of cdb.now) }

@@ -1,6 +1,6 @@
 use Rattle.std.proofs.Common.{refl}
 use Rattle.unit_law.specs.Request.{plain}
-use Rattle.driver_desk.proofs.Refusing.{whole_few, sound}
+use Rattle.driver_desk.proofs.WholeDescriptors.{whole_few, sound}
 use Rattle.driver_desk.proofs.BuiltTicket.{builds, not_refused, given_back}
 use Rattle.driver_desk.proofs.desk.Desk.build.Goals as goal
 

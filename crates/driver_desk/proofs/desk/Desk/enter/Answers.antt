@@ -5,9 +5,9 @@ use Rattle.desk_law.specs.Desk.{DeskState, ticket_of, ticket_at}
 use Rattle.desk_law.specs.Refusals.{kind_of, is_full}
 use Rattle.desk_law.specs.Building.{new_ticket}
 use Rattle.driver_desk.specs.Conditions.{AreFor}
-use Rattle.driver_desk.proofs.Refusing.{sound}
+use Rattle.driver_desk.proofs.WholeDescriptors.{sound}
 use Rattle.driver_desk.proofs.Least.{few_live}
-use Rattle.driver_desk.proofs.Entering.{entered}
+use Rattle.driver_desk.proofs.EnteredTickets.{entered}
 use Rattle.driver_desk.proofs.desk.Desk.enter.Goals as goal
 
 pub one_more-requires-clause-few : goal.one_more-requires-clause-few

@@ -8,7 +8,7 @@ use Rattle.desk_law.specs.Desk.{DeskState}
 use Rattle.driver_desk.specs.declared.reporting.Room.{Room}
 use Rattle.driver_desk.specs.Held.{HasRoom, piece_chunks}
 use Rattle.driver_desk.proofs.Index.{seen}
-use Rattle.driver_desk.proofs.Freeing.{facts, desk_freed}
+use Rattle.driver_desk.proofs.FreedTickets.{facts, desk_freed}
 use Rattle.driver_desk.proofs.desk.Desk.free.Goals as goal
 
 pub unreachable-requires : goal.unreachable-requires

@@ -3,7 +3,7 @@ use Rattle.desk_law.specs.Desk.{DeskState}
 use Rattle.desk_law.specs.Refusals.{is_full}
 use Rattle.desk_law.specs.Building.{free_block}
 use Rattle.place_table.specs.Places.{IsLeastFree}
-use Rattle.driver_desk.proofs.Counting.{IsTaken}
+use Rattle.driver_desk.proofs.LiveCounts.{IsTaken}
 use Rattle.driver_desk.proofs.Least.{least_block, some_block}
 use Rattle.driver_desk.proofs.desk.Desk.free_block.Goals as goal
 

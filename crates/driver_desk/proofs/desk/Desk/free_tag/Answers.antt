@@ -4,7 +4,7 @@ use Rattle.desk_law.specs.Refusals.{is_full}
 use Rattle.desk_law.specs.Building.{free_tag}
 use Rattle.place_table.specs.Places.{IsLeastFree}
 use Rattle.driver_desk.specs.Conditions.{step_of}
-use Rattle.driver_desk.proofs.Counting.{IsTaken}
+use Rattle.driver_desk.proofs.LiveCounts.{IsTaken}
 use Rattle.driver_desk.proofs.Least.{least_tag, some_tag}
 use Rattle.driver_desk.proofs.desk.Desk.free_tag.Goals as goal
 

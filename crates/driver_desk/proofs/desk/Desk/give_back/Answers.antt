@@ -3,7 +3,7 @@ use Rattle.dma_buddy.specs.declared.buddies.Chunk.{Chunk}
 use Rattle.dma_buddy.specs.Regions.{AreOut}
 use Rattle.desk_law.specs.Desk.{DeskState}
 use Rattle.driver_desk.specs.Held.{core, held}
-use Rattle.driver_desk.proofs.Freeing.{out-right}
+use Rattle.driver_desk.proofs.FreedTickets.{out-right}
 use Rattle.driver_desk.proofs.desk.Desk.give_back.Goals as goal
 
 pub put_back-requires-clause-out : goal.put_back-requires-clause-out

@@ -2,7 +2,7 @@ use Rattle.std.proofs.Common.{ℕ, ◌≤◌, List, sym, subst}
 use Rattle.std.specs.Prelude.{All}
 use Rattle.unit_law.specs.Request.{plain}
 use Rattle.desk_law.specs.Desk.{DeskState}
-use Rattle.driver_desk.proofs.Refusing.{sound, each_segment}
+use Rattle.driver_desk.proofs.WholeDescriptors.{sound, each_segment}
 use Rattle.driver_desk.proofs.Additions.{TakenOr, chunks_or, kept_or}
 use Rattle.driver_desk.proofs.desk.Desk.take_chunks.Goals as goal
 

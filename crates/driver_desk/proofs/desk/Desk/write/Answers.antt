@@ -2,7 +2,7 @@ use Rattle.std.proofs.Common.{rules, ◌≡◌, ◌<◌, true, length, ap, subst
 use Rattle.desk_law.specs.declared.ticket.Ticket.{Ticket}
 use Rattle.desk_law.specs.Desk.{DeskState, lives}
 use Rattle.driver_desk.proofs.Index.{seen}
-use Rattle.driver_desk.proofs.Freeing.{writable}
+use Rattle.driver_desk.proofs.FreedTickets.{writable}
 use Rattle.driver_desk.proofs.desk.Desk.write.Goals as goal
 
 pub write_ticket-requires-clause-inside : goal.write_ticket-requires-clause-inside

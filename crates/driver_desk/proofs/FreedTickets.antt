@@ -17,7 +17,7 @@ use Rattle.driver_desk.specs.Kept.{total, IsTicket, IsIndex, IsDesk}
 use Rattle.driver_desk.specs.Held.{core, at, Keyed, block_key, tag_key, piece_chunks, held_by, held, IsBuffer, HasRoom, less, IsHeld, IsKept}
 use Rattle.driver_desk.proofs.Keys.{other, keyed-freed, lives-core, at-core, same-some, index_from}
 use Rattle.driver_desk.proofs.Index.{tries_of}
-use Rattle.driver_desk.proofs.Counting.{counted-freed, one_lives}
+use Rattle.driver_desk.proofs.LiveCounts.{counted-freed, one_lives}
 use Rattle.driver_desk.proofs.GivenBack.{pieces_inside}
 use Rattle.desk_law.specs.declared.stage.Stage.{Stage}
 

@@ -16,8 +16,8 @@ use Rattle.driver_desk.specs.Kept.{total, IsTicket, IsIndex, IsDesk}
 use Rattle.driver_desk.specs.Held.{core, block_key, tag_key, piece_chunks, held, more, IsKept}
 use Rattle.driver_desk.specs.Conditions.{pieces_of, AreFor}
 use Rattle.driver_desk.proofs.Index.{block_found, tag_found}
-use Rattle.driver_desk.proofs.Refusing.{sound}
-use Rattle.driver_desk.proofs.Counting.{not_full}
+use Rattle.driver_desk.proofs.WholeDescriptors.{sound}
+use Rattle.driver_desk.proofs.LiveCounts.{not_full}
 use Rattle.driver_desk.proofs.Additions.{desk_built}
 
 -- what is true of a desk and of what it keeps
