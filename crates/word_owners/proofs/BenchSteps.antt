@@ -11,7 +11,7 @@ use Rattle.word_owners.specs.BenchSteps.{IsOwned, BenchStepsHold}
 use Rattle.word_owners.specs.Holds.{Spot, Holds, Running, Mismatched, NotData, Fixed, TimedOut, JobOver, ResetAt, Broken}
 use Rattle.word_owners.specs.Parts.{Counts}
 use Rattle.word_owners.proofs.AllSteps.{chip_steps_hold}
-use Rattle.word_owners.proofs.Answering.{answering_stays}
+use Rattle.word_owners.proofs.SelectionAnswers.{answering_stays}
 use Rattle.word_owners.proofs.DriverSteps.{driver_holds}
 
 at-spot : (version : ℕ) (units : List RigUnit) (s : Spot) (c : Counts) (w new : World) (word : ℕ) (answer : Reply) → w.stop ≡ stop.Run → AreAnswering units w.bus → RunsChip w word answer new → Holds version units s c w → IsOwned version units new

@@ -32,7 +32,7 @@ use Rattle.word_owners.specs.Answering.{AreAnswering}
 use Rattle.word_owners.specs.Parts.{Counts}
 use Rattle.word_owners.specs.Holds.{Spot, Holds}
 use Rattle.word_owners.specs.BenchSteps.{IsOwned}
-use Rattle.word_owners.proofs.Answering.{answering-room, answering-reset}
+use Rattle.word_owners.proofs.SelectionAnswers.{answering-room, answering-reset}
 use Rattle.word_owners.proofs.Aborts.{mark_holds}
 use Rattle.word_owners.proofs.ChipPlace.{told}
 use Rattle.word_owners.proofs.DoneTaken.{take_holds}

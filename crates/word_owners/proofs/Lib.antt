@@ -28,7 +28,7 @@ pub mod Beside
 pub mod DataMoves
 pub mod Buffers
 pub mod BlockLoads
-pub mod Answering
+pub mod SelectionAnswers
 pub mod OpenedTargets
 pub mod RingWrites
 pub mod BlockWrites

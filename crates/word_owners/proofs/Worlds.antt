@@ -24,7 +24,7 @@ use Rattle.word_owners.specs.Holds.{Spot, Holds}
 use Rattle.word_owners.specs.KeptDesks.{AreKept}
 use Rattle.word_owners.specs.Parts.{Counts}
 use Rattle.word_owners.specs.Worlds.{HasBytes, WordsAreOwned}
-use Rattle.word_owners.proofs.Answering.{answering-room}
+use Rattle.word_owners.proofs.SelectionAnswers.{answering-room}
 use Rattle.word_owners.proofs.BenchSteps.{bench_steps_hold}
 use Rattle.word_owners.proofs.Builds.{builds_hold}
 use Rattle.word_owners.proofs.ChipPlace.{told}
