@@ -12,7 +12,7 @@ use Rattle.target_law.specs.Session.{Task}
 use Rattle.target_law.specs.Sound.{IsWaiting}
 use Rattle.target_law.specs.Target.{LogicalUnit, BusFree, Target, unit_at, unit_opened}
 use Rattle.logs_have_room.specs.Room.{entries}
-use Rattle.ticket_fate.specs.Tickets.{Plan, unit_of, opening, setting, Life, Unbuilt, Built, Linked, ToRequeue, Waits, Selected, Connected, Away, Lost, Rejected, Finished, Checked, Asks, AskStarts, AskConnected, AskLost, Asked, AtRogue, Ended, Unlinked, Freed, Ticket, course_at, report_of, view_for}
+use Rattle.ticket_fate.specs.Tickets.{Plan, unit_of, opening, setting, Life, Unbuilt, Built, Linked, ToRequeue, Waits, Selected, Connected, Away, Lost, Rejected, Finished, Checked, Asks, AskStarts, AskConnected, AskLost, Asked, AtRogue, Ended, Unlinked, Freed, Ticket, history_at, report_of, view_for}
 use Rattle.ticket_fate.specs.Fates.{ReportFits, FreedReportFits, Fate, NeedsNone, TicketKept}
 use Rattle.ticket_fate.specs.Linked.{LinkKept, AwayTasks, UnitKept}
 use Rattle.ticket_fate.specs.Senses.{SenseFate}
@@ -20,7 +20,7 @@ use Rattle.ticket_fate.specs.Moves.{marked_ticket, CanMark}
 use Rattle.ticket_fate.specs.Kept.{AllKept}
 use Rattle.ticket_fate.proofs.Views.{each-changed}
 
-by-marked : (o : Outcome) (s : UnitSetting) (r : RequestData) (v : View) (m b : Bool) (clears outside : ℕ) (q : Report) → By o s r v (course_at m clears b outside) q → By o s r v (course_at true clears b outside) q
+by-marked : (o : Outcome) (s : UnitSetting) (r : RequestData) (v : View) (m b : Bool) (clears outside : ℕ) (q : Report) → By o s r v (history_at m clears b outside) q → By o s r v (history_at true clears b outside) q
 by-marked Done s r v m b clears outside q h = h
 by-marked Cut s r v m b clears outside q h = (h.0, refl)
 by-marked Reset s r v m b clears outside q h = h
@@ -28,8 +28,8 @@ by-marked NoTarget s r v m b clears outside q h = h
 by-marked Broken s r v m b clears outside q h = h
 
 fits-marked : (g : Plan) (t : ℕ) (k : Ticket) (v : View) (o : Outcome) (clears outside : ℕ)
-    → Fits (setting g (unit_of g t)) t (g.requests t) v (course_at k.marked clears k.bus_reset outside) (report_of t (g.requests t) k.status k.lastp k.tries k.buffer [] o)
-    → Fits (setting g (unit_of g t)) t (g.requests t) v (course_at true clears k.bus_reset outside) (report_of t (g.requests t) k.status k.lastp k.tries k.buffer [] o)
+    → Fits (setting g (unit_of g t)) t (g.requests t) v (history_at k.marked clears k.bus_reset outside) (report_of t (g.requests t) k.status k.lastp k.tries k.buffer [] o)
+    → Fits (setting g (unit_of g t)) t (g.requests t) v (history_at true clears k.bus_reset outside) (report_of t (g.requests t) k.status k.lastp k.tries k.buffer [] o)
 fits-marked g t k v o clears outside f = λ rogue.
     let h = f rogue in
     record { by = by-marked o (setting g (unit_of g t)) (g.requests t) v k.marked k.bus_reset clears outside _ h.by; ticket = refl; of_unit = refl; few_tries = h.few_tries; all_within = h.all_within; all_caused = refl }

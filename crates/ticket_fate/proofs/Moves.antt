@@ -27,14 +27,14 @@ use Rattle.target_law.specs.Target as connection_state
 use Rattle.target_law.specs.Target.{LogicalUnit, ConnectionState, BusFree, TakingCommand, TaskConnected, RogueConnected, Target, unit_at, session, linked, parted, target_reset, goes_on}
 use Rattle.target_law.specs.Calls.{target_acted, acted_by, begun, has_ended, task_reselected}
 use Rattle.target_law.specs.Lawful.{refused_so_far}
-use Rattle.ticket_fate.specs.Tickets.{Plan, unit_of, Life, Unbuilt, Built, Linked, ToRequeue, Waits, Selected, Connected, Away, Lost, Rejected, Finished, Checked, Asks, AskStarts, AskConnected, AskLost, Asked, AtRogue, Ended, Unlinked, Freed, Ticket, setting, course_at, freed_ticket, ticket_asked, view_for}
+use Rattle.ticket_fate.specs.Tickets.{Plan, unit_of, Life, Unbuilt, Built, Linked, ToRequeue, Waits, Selected, Connected, Away, Lost, Rejected, Finished, Checked, Asks, AskStarts, AskConnected, AskLost, Asked, AtRogue, Ended, Unlinked, Freed, Ticket, setting, history_at, freed_ticket, ticket_asked, view_for}
 use Rattle.ticket_fate.specs.Fates.{ReportFits, FreedReportFits, TicketKept}
 use Rattle.ticket_fate.specs.Senses.{Unasked, SenseOfReportFits, AsksTask}
 use Rattle.ticket_fate.specs.Linked.{IsPlan, UnitKept, IsAtWork, IsAsking, WorkKept, LinkKept, TargetKept, ResetCause, ByBus, ByDevice, reset_tickets, reset_ticket, log_of, front_life, lost_life}
-use Rattle.ticket_fate.specs.Moves.{CompletesTicket, parts_ticket, TicketMove, builds, links, queues, requeues, selects, times_out, cancels, takes_again, takes_refused, takes, takes_checked, asks, ask_selects, takes_sense, sweeps_asking, selects_rogue, strays, ends_rogue, sweeps, unlinks, frees, IsIdle, MayLink, target_of, pointed_ticket, marked_ticket, Moves, alone, points, marks, relinks, acts, sends, receives, hears, listens, leaves_bus, completes, drops_task, reselects, begins, ask_sends, ask_completes, ask_begins, resets_idle, resets_work, resets_asking}
+use Rattle.ticket_fate.specs.Moves.{CompletesTicket, parts_ticket, TicketMove, builds, links, queues, requeues, selects, times_out, cancels, takes_again, takes_refused, takes, takes_checked, asks, ask_selects, takes_sense, sweeps_asking, selects_rogue, rogue_moves, ends_rogue, sweeps, unlinks, frees, IsIdle, MayLink, target_of, pointed_ticket, marked_ticket, Moves, alone, points, marks, relinks, acts, sends, receives, hears, listens, leaves_bus, completes, drops_task, reselects, begins, ask_sends, ask_completes, ask_begins, resets_idle, resets_work, resets_asking}
 use Rattle.ticket_fate.specs.Kept.{AtLink, AllKept}
 use Rattle.ticket_fate.proofs.SenseLives.{silent-lost}
-use Rattle.ticket_fate.proofs.SenseSteps.{taken-kept, checked-kept, asks-kept, ask-selected-kept, sense-taken-kept, asking-swept-kept, rogue-selected-kept, strayed-kept, rogue-ended-kept}
+use Rattle.ticket_fate.proofs.SenseSteps.{taken-kept, checked-kept, asks-kept, ask-selected-kept, sense-taken-kept, asking-swept-kept, rogue-selected-kept, rogue-moved-kept, rogue-ended-kept}
 use Rattle.ticket_fate.proofs.SenseTasks.{ask-acted, ask-sent, ask-completed, ask-begun, asking-reset}
 use Rattle.ticket_fate.proofs.TicketSteps.{fate_at, sense_at, built-kept, linked-kept, queued-kept, again-kept, selected-kept, absent-kept, cancelled-kept, requeue-kept, refused-kept}
 use Rattle.ticket_fate.proofs.Targets.{unit-elsewhere, units-elsewhere, acted-kept, at-lun, at, kept, runs}
@@ -44,7 +44,7 @@ use Rattle.ticket_fate.proofs.Marks.{unit-same-life, marked-kept}
 use Rattle.ticket_fate.proofs.Resets.{idle-reset, work-reset, link-agrees, unit-agrees}
 
 -- how many entries lie outside a ticket's life is no matter of the cases
-by-outside : (o : Outcome) (s : UnitSetting) (r : RequestData) (v : View) (m b : Bool) (clears few many : ℕ) (q : Report) → By o s r v (course_at m clears b few) q → By o s r v (course_at m clears b many) q
+by-outside : (o : Outcome) (s : UnitSetting) (r : RequestData) (v : View) (m b : Bool) (clears few many : ℕ) (q : Report) → By o s r v (history_at m clears b few) q → By o s r v (history_at m clears b many) q
 by-outside Done s r v m b clears few many q h = h
 by-outside Cut s r v m b clears few many q h = h
 by-outside Reset s r v m b clears few many q h = h
@@ -86,7 +86,7 @@ stands-on g x k log j (ask_selects e) s = ask-selected-kept g x k log s e
 stands-on g x k log j (takes_sense e) s = sense-taken-kept g x k log s e
 stands-on g x k log j (sweeps_asking e) s = asking-swept-kept g x k log s e
 stands-on g x k log j (selects_rogue e r) s = rogue-selected-kept g x k log s e r
-stands-on g x k log j (strays status lastp savep tries buffer area e) s = strayed-kept g x k log s status lastp savep tries buffer area e
+stands-on g x k log j (rogue_moves status lastp savep tries buffer area e) s = rogue-moved-kept g x k log s status lastp savep tries buffer area e
 stands-on g x k log j (ends_rogue o e) s = rogue-ended-kept g x k log s o e
 stands-on g x k log j (sweeps e) s = record { fate = fate_at g x k log Lost s e; sense = lost-silent g x k (view_for g x log) (fate_at g x k log Lost s e) (sense_at g x k log Lost s e); absent = λ a. ((s.absent a).0, tt); since = s.since; before = s.before }
 stands-on g x k log j (unlinks o e) s = record { fate = fate_at g x k log (Ended o) s e; sense = sense_at g x k log (Ended o) s e; absent = λ a. ((s.absent a).0, tt); since = s.since; before = s.before }
@@ -119,7 +119,7 @@ taskless g x k log j (ask_selects e) = (subst NoTask (sym e) tt, tt)
 taskless g x k log j (takes_sense e) = (subst NoTask (sym e) tt, tt)
 taskless g x k log j (sweeps_asking e) = (subst NoTask (sym e) tt, tt)
 taskless g x k log j (selects_rogue e r) = (subst NoTask (sym e) tt, tt)
-taskless g x k log j (strays status lastp savep tries buffer area e) = (subst NoTask (sym e) tt, subst NoTask (sym e) tt)
+taskless g x k log j (rogue_moves status lastp savep tries buffer area e) = (subst NoTask (sym e) tt, subst NoTask (sym e) tt)
 taskless g x k log j (ends_rogue o e) = (subst NoTask (sym e) tt, tt)
 taskless g x k log j (sweeps e) = (subst NoTask (sym e) tt, tt)
 taskless g x k log j (unlinks o e) = (subst NoTask (sym e) tt, tt)

@@ -8,10 +8,10 @@ use Rattle.unit_law.specs.Log.{View}
 use Rattle.unit_law.specs.Request.{RequestData}
 use Rattle.unit_law.specs.Report.{UnitSetting, TicketHistory, By, Fits, SenseFits}
 use Rattle.target_law.specs.Target.{Target}
-use Rattle.ticket_fate.specs.Tickets.{Plan, unit_of, setting, Freed, Ticket, report_of, freed_report, course_at, view_for}
+use Rattle.ticket_fate.specs.Tickets.{Plan, unit_of, setting, Freed, Ticket, report_of, freed_report, history_at, view_for}
 use Rattle.ticket_fate.specs.Senses.{SenseOfReportFits}
 use Rattle.ticket_fate.specs.Fates.{FreedReportFits}
-use Rattle.ticket_fate.specs.Histories.{Run, none, more, course, tally_in, history}
+use Rattle.ticket_fate.specs.Histories.{Run, none, more, progress_of, tally_in, history}
 use Rattle.ticket_fate.specs.Linked.{IsPlan}
 use Rattle.ticket_fate.specs.Moves.{target_of}
 use Rattle.ticket_fate.specs.Kept.{AllKept}
@@ -37,7 +37,7 @@ recorded : (g : Plan) (count : ℕ) (plan : IsPlan g count) (ks : ℕ → Ticket
 recorded g count plan ks ts o x ns us none = record {
   marked = sym (o.unmarked x);
   bus_reset = sym (o.unreset x);
-  clears = subst (λ l. Counted (course l) (ks x).since (ks x).clears (tally_in g ts x).clears 0) (sym (o.unbuilt x)) refl;
+  clears = subst (λ l. Counted (progress_of l) (ks x).since (ks x).clears (tally_in g ts x).clears 0) (sym (o.unbuilt x)) refl;
   outside = refl;
   uncaused = refl;
 }
@@ -56,12 +56,12 @@ history-is a b m c f o u =
 pub histories-end : HistoriesEnd
 histories-end g count ns us r x o e =
     let h = recorded g count r.plan r.from.0 r.from.1 r.from.2 x ns us r.from.3 in
-    history-is (history x r.from.3) (course_at (ns x).marked (ns x).clears (ns x).bus_reset 0) h.marked
-    (subst (λ l. Counted (course l) (ns x).since (ns x).clears (tally_in g us x).clears (history x r.from.3).clears) e h.clears) h.bus_reset h.outside h.uncaused
+    history-is (history x r.from.3) (history_at (ns x).marked (ns x).clears (ns x).bus_reset 0) h.marked
+    (subst (λ l. Counted (progress_of l) (ns x).since (ns x).clears (tally_in g us x).clears (history x r.from.3).clears) e h.clears) h.bus_reset h.outside h.uncaused
 
 -- the sense of the report and the entries outside are no matter of the cases
 by-report : (o : Outcome) (s : UnitSetting) (t : ℕ) (r : RequestData) (v : View) (marked flag : Bool) (clears few many status lastp tries : ℕ) (buffer sense : List ℕ)
-    → By o s r v (course_at marked clears flag few) (report_of t r status lastp tries buffer [] o) → By o s r v (course_at marked clears flag many) (report_of t r status lastp tries buffer sense o)
+    → By o s r v (history_at marked clears flag few) (report_of t r status lastp tries buffer [] o) → By o s r v (history_at marked clears flag many) (report_of t r status lastp tries buffer sense o)
 by-report Done s t r v marked flag clears few many status lastp tries buffer sense (inl h) = inl (record { one_end = h.one_end; no_drop = h.no_drop; tries = h.tries; given = h.given })
 by-report Done s t r v marked flag clears few many status lastp tries buffer sense (inr h) =
     inr (record { no_look = h.no_look; no_end = h.no_end; no_drop = h.no_drop; no_sense = h.no_sense; tries = h.tries; all_tries = h.all_tries; status = h.status; residual = h.residual; bytes = h.bytes })
@@ -83,7 +83,7 @@ by-report NoTarget s t r v marked flag clears few many status lastp tries buffer
 }
 by-report Broken s t r v marked flag clears few many status lastp tries buffer sense h = absurd h
 
-freed-fits : (g : Plan) (x : ℕ) (k : Ticket) (v : View) (o : Outcome) → FreedReportFits g x k v o → Fits (setting g (unit_of g x)) x (g.requests x) v (course_at k.marked k.clears k.bus_reset 0) (freed_report x (g.requests x) k o)
+freed-fits : (g : Plan) (x : ℕ) (k : Ticket) (v : View) (o : Outcome) → FreedReportFits g x k v o → Fits (setting g (unit_of g x)) x (g.requests x) v (history_at k.marked k.clears k.bus_reset 0) (freed_report x (g.requests x) k o)
 freed-fits g x k v o f = λ rogue.
     let h = f rogue in
     record {
@@ -95,7 +95,7 @@ freed-fits g x k v o f = λ rogue.
       all_caused = refl;
     }
 
-freed-sense : (g : Plan) (x : ℕ) (k : Ticket) (v : View) (o : Outcome) → SenseOfReportFits g x k v o → SenseFits (setting g (unit_of g x)) v (course_at k.marked k.clears k.bus_reset 0) (freed_report x (g.requests x) k o)
+freed-sense : (g : Plan) (x : ℕ) (k : Ticket) (v : View) (o : Outcome) → SenseOfReportFits g x k v o → SenseFits (setting g (unit_of g x)) v (history_at k.marked k.clears k.bus_reset 0) (freed_report x (g.requests x) k o)
 freed-sense g x k v o f = λ rogue.
     let h = f rogue in
     record {

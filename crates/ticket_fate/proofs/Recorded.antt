@@ -26,15 +26,15 @@ use Rattle.ticket_fate.specs.Tickets.{Plan, unit_of, Life, Selected, Connected, 
 use Rattle.ticket_fate.specs.Linked.{IsPlan, HasNoTaskOf, UnitKept, IsAtWork, IsAsking, WorkKept, LinkKept, ResetCause, ByBus, ByDevice, reset_tickets, log_in, log_of}
 use Rattle.ticket_fate.specs.Moves.{CompletesTicket, parts_ticket, marked_ticket, IsIdle, target_of, Moves, alone, points, marks, relinks, acts, sends, receives, hears, listens, leaves_bus, completes, drops_task, reselects, begins, ask_sends, ask_completes, ask_begins, resets_idle, resets_work, resets_asking}
 use Rattle.ticket_fate.specs.Kept.{AllKept}
-use Rattle.ticket_fate.specs.Histories.{Course, NotQueued, UnderWay, Reported, course, is_under_way, marks_in, is_bus, is_device, resets_by, count_if, noted_by, tally_in, noted}
+use Rattle.ticket_fate.specs.Histories.{Progress, NotQueued, UnderWay, Reported, progress_of, is_under_way, marks_in, is_bus, is_device, resets_by, count_if, noted_by, tally_in, noted}
 use Rattle.ticket_fate.proofs.Targets.{at-lun, unit-same, unit-other}
 use Rattle.ticket_fate.proofs.TaskLists.{not-of, not-by_tag, away-at}
 use Rattle.ticket_fate.proofs.Resets.{slot-there}
-use Rattle.ticket_fate.proofs.Turns.{CourseTurned, TicketTurned, or-none, stays, alone-turned, reset-turned, at-ticket, sent-turned, asked-turned}
+use Rattle.ticket_fate.proofs.Turns.{ProgressTurned, TicketTurned, or-none, stays, alone-turned, reset-turned, at-ticket, sent-turned, asked-turned}
 use Rattle.ticket_fate.proofs.LogTurns.{Turned, turned-tally, acted-turned, closed-turned, drops-turned, unit-logs, target-logs, unit-reset}
 
--- the Clears of a history, by the course of its ticket
-abbrev pub Counted : Course → (since clears now n : ℕ) → Type 0
+-- the Clears of a history, by the progress of its ticket
+abbrev pub Counted : Progress → (since clears now n : ℕ) → Type 0
 Counted NotQueued since clears now n = n ≡ 0
 Counted UnderWay since clears now n = n ≡ now - since
 Counted Reported since clears now n = n ≡ clears
@@ -42,7 +42,7 @@ Counted Reported since clears now n = n ≡ clears
 pub record Recorded (k : Ticket) (v : Tally) (h : TicketHistory) : Type 0 where
   pub marked : h.marked ≡ k.marked
   pub bus_reset : h.bus_reset ≡ k.bus_reset
-  pub clears : Counted (course k.life) k.since k.clears v.clears h.clears
+  pub clears : Counted (progress_of k.life) k.since k.clears v.clears h.clears
   pub outside : h.outside ≡ 0
   pub uncaused : h.uncaused_clears ≡ 0
 
@@ -52,7 +52,7 @@ pub record TallyStep (live caused : Bool) (before after : Tally) : Type 0 where
   pub same : caused ≡ false → after.clears ≡ before.clears
   pub entries : live ≡ false → entries after ≡ entries before
 
-counted-on : (c : Course) (since clears now later n : ℕ) → since ≤ now → now ≤ later → Counted c since clears now n → Counted c since clears later (n + count_if (is_under_way c) (later - now))
+counted-on : (c : Progress) (since clears now later n : ℕ) → since ≤ now → now ≤ later → Counted c since clears now n → Counted c since clears later (n + count_if (is_under_way c) (later - now))
 counted-on NotQueued since clears now later n s l h = omega arith
 counted-on UnderWay since clears now later n s l h = omega arith
 counted-on Reported since clears now later n s l h = omega arith
@@ -62,28 +62,28 @@ none-counted true m n f = refl
 none-counted false m n f = let e = f refl in omega arith
 
 module _ (k j : Ticket) (before after : Tally) (marked bus device : Bool) (h : TicketHistory) (within : k.since ≤ before.clears) (step : TallyStep (is_live k.life) (bus || device) before after) (r : Recorded k before h) where
-  counted : CourseTurned k j before.clears (bus || device) → Counted (course j.life) j.since j.clears after.clears (h.clears + count_if (is_under_way (course k.life)) (after.clears - before.clears))
+  counted : ProgressTurned k j before.clears (bus || device) → Counted (progress_of j.life) j.since j.clears after.clears (h.clears + count_if (is_under_way (progress_of k.life)) (after.clears - before.clears))
   counted (inl t) =
-      let m = counted-on (course k.life) k.since k.clears before.clears after.clears h.clears within step.grows r.clears in
-      subst (λ c. Counted c j.since j.clears after.clears (h.clears + count_if (is_under_way (course k.life)) (after.clears - before.clears))) (sym t.0)
-      (subst (λ s. Counted (course k.life) s j.clears after.clears (h.clears + count_if (is_under_way (course k.life)) (after.clears - before.clears))) (sym t.1)
-      (subst (λ s. Counted (course k.life) k.since s after.clears (h.clears + count_if (is_under_way (course k.life)) (after.clears - before.clears))) (sym t.2) m))
+      let m = counted-on (progress_of k.life) k.since k.clears before.clears after.clears h.clears within step.grows r.clears in
+      subst (λ c. Counted c j.since j.clears after.clears (h.clears + count_if (is_under_way (progress_of k.life)) (after.clears - before.clears))) (sym t.0)
+      (subst (λ s. Counted (progress_of k.life) s j.clears after.clears (h.clears + count_if (is_under_way (progress_of k.life)) (after.clears - before.clears))) (sym t.1)
+      (subst (λ s. Counted (progress_of k.life) k.since s after.clears (h.clears + count_if (is_under_way (progress_of k.life)) (after.clears - before.clears))) (sym t.2) m))
   counted (inr (inl t)) =
       let old : h.clears ≡ 0 = subst (λ c. Counted c k.since k.clears before.clears h.clears) t.0 r.clears in
-      let e : count_if (is_under_way (course k.life)) (after.clears - before.clears) ≡ 0 = ap (λ c. count_if (is_under_way c) (after.clears - before.clears)) t.0 in
+      let e : count_if (is_under_way (progress_of k.life)) (after.clears - before.clears) ≡ 0 = ap (λ c. count_if (is_under_way c) (after.clears - before.clears)) t.0 in
       let s = step.same t.3 in
-      subst (λ c. Counted c j.since j.clears after.clears (h.clears + count_if (is_under_way (course k.life)) (after.clears - before.clears))) (sym t.1) (let z = t.2 in omega arith)
+      subst (λ c. Counted c j.since j.clears after.clears (h.clears + count_if (is_under_way (progress_of k.life)) (after.clears - before.clears))) (sym t.1) (let z = t.2 in omega arith)
   counted (inr (inr t)) =
       let old : h.clears ≡ before.clears - k.since = subst (λ c. Counted c k.since k.clears before.clears h.clears) t.0 r.clears in
-      let e : count_if (is_under_way (course k.life)) (after.clears - before.clears) ≡ after.clears - before.clears = ap (λ c. count_if (is_under_way c) (after.clears - before.clears)) t.0 in
+      let e : count_if (is_under_way (progress_of k.life)) (after.clears - before.clears) ≡ after.clears - before.clears = ap (λ c. count_if (is_under_way c) (after.clears - before.clears)) t.0 in
       let s = step.same t.3 in
-      subst (λ c. Counted c j.since j.clears after.clears (h.clears + count_if (is_under_way (course k.life)) (after.clears - before.clears))) (sym t.1) (let z = t.2 in omega arith)
+      subst (λ c. Counted c j.since j.clears after.clears (h.clears + count_if (is_under_way (progress_of k.life)) (after.clears - before.clears))) (sym t.1) (let z = t.2 in omega arith)
 
   pub recorded-on : TicketTurned k j before marked bus (bus || device) → Recorded j after (noted_by k before after marked bus device h)
   recorded-on t = record {
     marked = ap (λ b. b || marked) r.marked ∙ sym t.marked;
     bus_reset = ap (λ b. b || (bus && (nat_lt 0 before.ends && is_live k.life))) r.bus_reset ∙ sym t.bus_reset;
-    clears = counted t.courses;
+    clears = counted t.progress;
     outside = let o = none-counted (is_live k.life) (entries after) (entries before) step.entries in let z = r.outside in omega arith;
     uncaused = let o = none-counted (bus || device) after.clears before.clears step.same in let z = r.uncaused in omega arith;
   }
@@ -206,9 +206,9 @@ same-number a i e = grind (arith, nat_tests)
 
 completed-turned : (v : Completion) (g : Plan) (t : ℕ) (k : Ticket) (s : Session) (j : Ticket) (before : Tally) → k.life ≡ Connected → CompletesTicket v g t k s j → TicketTurned k j before false false false
 completed-turned (HasAnswered st) g t k s j before e z =
-    subst (λ y. TicketTurned k y before false false false) (sym z.2) (stays k (with_life k (Finished Done)) before refl refl (sym (ap course e)) refl refl)
+    subst (λ y. TicketTurned k y before false false false) (sym z.2) (stays k (with_life k (Finished Done)) before refl refl (sym (ap progress_of e)) refl refl)
 completed-turned (Refused st) g t k s j before e z =
-    subst (λ y. TicketTurned k y before false false false) (sym z.1) (stays k (with_life k (Rejected st)) before refl refl (sym (ap course e)) refl refl)
+    subst (λ y. TicketTurned k y before false false false) (sym z.1) (stays k (with_life k (Rejected st)) before refl refl (sym (ap progress_of e)) refl refl)
 
 module _ (g : Plan) (count : ℕ) (plan : IsPlan g count) (ks : ℕ → Ticket) (ts : ℕ → Target) (h : AllKept g count ks ts) (x : ℕ) where
   abbrev was : Tally
@@ -220,9 +220,9 @@ module _ (g : Plan) (count : ℕ) (plan : IsPlan g count) (ks : ℕ → Ticket) 
   same : TicketTurned (ks x) (ks x) was false false false
   same = stays (ks x) (ks x) was refl refl refl refl refl
 
-  kept-course : (y : ℕ) (k : Ticket) (l : Life) → (ks y).life ≡ l → course k.life ≡ course l → k.marked ≡ (ks y).marked → k.bus_reset ≡ (ks y).bus_reset → k.since ≡ (ks y).since → k.clears ≡ (ks y).clears
+  kept-progress : (y : ℕ) (k : Ticket) (l : Life) → (ks y).life ≡ l → progress_of k.life ≡ progress_of l → k.marked ≡ (ks y).marked → k.bus_reset ≡ (ks y).bus_reset → k.since ≡ (ks y).since → k.clears ≡ (ks y).clears
       → TicketTurned (ks x) (with_at ks y k x) was false false false
-  kept-course y k l e c m b s n = own y k (stays (ks y) k was m b (c ∙ sym (ap course e)) s n)
+  kept-progress y k l e c m b s n = own y k (stays (ks y) k was m b (c ∙ sym (ap progress_of e)) s n)
 
   work : (i : ℕ) (c : Connection) → (ts i).link ≡ TaskConnected c → c.task.senses ≡ false → (ks c.task.ticket).life ≡ Connected
   work i c working free = let w : IsAtWork g i ks (ts i) c = subst (λ b. WorkKept b g i ks (ts i) c) free (subst (λ l. LinkKept l g i ks (ts i)) working (h.each i).link) in w.life
@@ -234,7 +234,7 @@ module _ (g : Plan) (count : ℕ) (plan : IsPlan g count) (ks : ℕ → Ticket) 
   marked-turned y (inl q) =
       subst (λ b. TicketTurned (ks x) (with_at ks y (marked_ticket (ks y)) x) was b false false) (sym (ap (λ z. nat_eq z y) q ∙ eq-test y))
       (subst (λ z. TicketTurned (ks x) z was true false false) (sym (ap (with_at ks y (marked_ticket (ks y))) q ∙ with_at-same ks y (marked_ticket (ks y))))
-      (subst (λ z. TicketTurned (ks z) (marked_ticket (ks y)) was true false false) (sym q) (record { marked = or-true (ks y).marked; bus_reset = or-none (ks y).bus_reset; courses = inl (refl, refl, refl) })))
+      (subst (λ z. TicketTurned (ks z) (marked_ticket (ks y)) was true false false) (sym q) (record { marked = or-true (ks y).marked; bus_reset = or-none (ks y).bus_reset; progress = inl (refl, refl, refl) })))
   marked-turned y (inr d) =
       subst (λ b. TicketTurned (ks x) (with_at ks y (marked_ticket (ks y)) x) was b false false) (sym (ne-test x y d))
       (subst (λ z. TicketTurned (ks x) z was false false false) (sym (with_at-other ks y (marked_ticket (ks y)) x d)) same)
@@ -251,12 +251,12 @@ module _ (g : Plan) (count : ℕ) (plan : IsPlan g count) (ks : ℕ → Ticket) 
       let e : with_at ks c.task.ticket (parts_ticket ks c) x ≡ parts_ticket ks c = ap (with_at ks c.task.ticket (parts_ticket ks c)) q ∙ with_at-same ks c.task.ticket (parts_ticket ks c) in
       let own_life : (ks x).life ≡ Connected = ap (λ z. (ks z).life) q ∙ life in
       reset-turned (nat_eq (target_of g x) i) b (ks x) (with_at ks c.task.ticket (parts_ticket ks c) x) was (tally x (log_of g (ts i) x)).ends caused (ends-same i)
-      (ap (λ z. z.marked) e ∙ ap (λ z. (ks z).marked) (sym q)) (ap (λ z. z.bus_reset) e ∙ ap (λ z. (ks z).bus_reset) (sym q)) (ap (λ z. course z.life) e ∙ sym (ap course own_life))
+      (ap (λ z. z.marked) e ∙ ap (λ z. (ks z).marked) (sym q)) (ap (λ z. z.bus_reset) e ∙ ap (λ z. (ks z).bus_reset) (sym q)) (ap (λ z. progress_of z.life) e ∙ sym (ap progress_of own_life))
       (ap (λ z. is_live z.life) e ∙ sym (ap is_live own_life)) (ap (λ z. z.since) e ∙ ap (λ z. (ks z).since) (sym q)) (ap (λ z. z.clears) e ∙ ap (λ z. (ks z).clears) (sym q))
   reset-parted i b caused c life (inr d) =
       let e = with_at-other ks c.task.ticket (parts_ticket ks c) x d in
       reset-turned (nat_eq (target_of g x) i) b (ks x) (with_at ks c.task.ticket (parts_ticket ks c) x) was (tally x (log_of g (ts i) x)).ends caused (ends-same i)
-      (ap (λ z. z.marked) e) (ap (λ z. z.bus_reset) e) (ap (λ z. course z.life) e) (ap (λ z. is_live z.life) e) (ap (λ z. z.since) e) (ap (λ z. z.clears) e)
+      (ap (λ z. z.marked) e) (ap (λ z. z.bus_reset) e) (ap (λ z. progress_of z.life) e) (ap (λ z. is_live z.life) e) (ap (λ z. z.since) e) (ap (λ z. z.clears) e)
 
   turned : (ns : ℕ → Ticket) (us : ℕ → Target) (m : Moves g count ks ts ns us)
       → TicketTurned (ks x) (ns x) (tally_in g ts x) (marks_in x m) (resets_by is_bus (target_of g x) m) (resets_by is_bus (target_of g x) m || resets_by is_device (target_of g x) m)
@@ -270,17 +270,17 @@ module _ (g : Plan) (count : ℕ) (plan : IsPlan g count) (ks : ℕ → Ticket) 
   turned ns us (receives i c n at b w free e f byte) = own c.task.ticket _ (stays (ks c.task.ticket) _ was refl refl refl refl refl)
   turned ns us (hears i c n s w free e d f) = own c.task.ticket _ (stays (ks c.task.ticket) _ was refl refl refl refl refl)
   turned ns us (listens i c bytes w free) = own c.task.ticket _ (stays (ks c.task.ticket) _ was refl refl refl refl refl)
-  turned ns us (leaves_bus i c u w free there e) = kept-course c.task.ticket _ Connected (work i c w free) refl refl refl refl refl
+  turned ns us (leaves_bus i c u w free there e) = kept-progress c.task.ticket _ Connected (work i c w free) refl refl refl refl refl
   turned ns us (completes i c u v s k w free there e z) = own c.task.ticket k (completed-turned v g c.task.ticket (ks c.task.ticket) (session u c) k was (work i c w free) z)
-  turned ns us (drops_task i c u w free there e) = kept-course c.task.ticket _ Connected (work i c w free) refl refl refl refl refl
+  turned ns us (drops_task i c u w free there e) = kept-progress c.task.ticket _ Connected (work i c w free) refl refl refl refl refl
   turned ns us (reselects n m u k less idle there e) =
       let old = (h.each (g.units n).target).units n less refl in
       let unit : UnitKept g n ks u = subst (UnitKept g n ks) (same_Some old.0 u (sym old.1 ∙ there)) old.2 in
-      kept-course k.ticket _ Away (away-at g n ks m u.tasks k unit.lists.tasks e).life refl refl refl refl refl
-  turned ns us (begins y n u idle there lun tag life others) = kept-course y _ Selected life refl refl refl refl refl
+      kept-progress k.ticket _ Away (away-at g n ks m u.tasks k unit.lists.tasks e).life refl refl refl refl refl
+  turned ns us (begins y n u idle there lun tag life others) = kept-progress y _ Selected life refl refl refl refl refl
   turned ns us (ask_sends i c at b w free e byte) = own c.task.ticket _ (asked-turned c.shows at b (ks c.task.ticket) _ was)
-  turned ns us (ask_completes i c u v s w free there e) = kept-course c.task.ticket _ AskConnected (asking i c w free) refl refl refl refl refl
-  turned ns us (ask_begins y n u idle there lun tag life others) = kept-course y _ AskStarts life refl refl refl refl refl
+  turned ns us (ask_completes i c u v s w free there e) = kept-progress c.task.ticket _ AskConnected (asking i c w free) refl refl refl refl refl
+  turned ns us (ask_begins y n u idle there lun tag life others) = kept-progress y _ AskStarts life refl refl refl refl refl
   turned ns us (resets_idle i b idle can) = reset-alone i b _
   turned ns us (resets_work i b c u w free there can) = reset-parted i b _ c (work i c w free) (same_or_not x c.task.ticket)
   turned ns us (resets_asking i c u w free there) = reset-alone i ByBus _

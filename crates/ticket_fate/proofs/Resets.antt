@@ -21,7 +21,7 @@ use Rattle.target_law.specs.Sound.{IsWaiting}
 use Rattle.target_law.specs.Target as connection_state
 use Rattle.target_law.specs.Target.{LogicalUnit, ConnectionState, BusFree, TakingCommand, TaskConnected, RogueConnected, Target, flat, unit_at, with_unit, drops, drops_by, unit_reset, slot_reset, parted, target_reset, leaves, unit_left}
 use Rattle.logs_have_room.specs.Room.{entries}
-use Rattle.ticket_fate.specs.Tickets.{Plan, unit_of, opening, setting, Life, Unbuilt, Built, Linked, ToRequeue, Waits, Selected, Connected, Away, Lost, Rejected, Finished, Checked, Asks, AskStarts, AskConnected, AskLost, Asked, AtRogue, Ended, Unlinked, Freed, is_live, Ticket, course_at, report_of, view_for}
+use Rattle.ticket_fate.specs.Tickets.{Plan, unit_of, opening, setting, Life, Unbuilt, Built, Linked, ToRequeue, Waits, Selected, Connected, Away, Lost, Rejected, Finished, Checked, Asks, AskStarts, AskConnected, AskLost, Asked, AtRogue, Ended, Unlinked, Freed, is_live, Ticket, history_at, report_of, view_for}
 use Rattle.ticket_fate.specs.Fates.{OnlyRefusals, AllRefused, HasTask, ReportFits, FreedReportFits, Fate, NeedsNone, TicketKept}
 use Rattle.ticket_fate.specs.Moves.{parts_ticket}
 use Rattle.ticket_fate.specs.Senses.{Unasked, ToAsk, HasAsked, SenseOfReportFits, SenseFate, AsksTask}
@@ -138,8 +138,8 @@ view-clear g x log =
 loss-more : (r : RequestData) (v : View) (q : Report) → ByLoss r v q → ByLoss r (more v) q
 loss-more r v q h = record { no_end = h.no_end; lost = h.lost; tries = h.tries; status = h.status; residual = h.residual; bytes = h.bytes }
 
-by-more : (o : Outcome) (s : UnitSetting) (r : RequestData) (v : View) (m a b : Bool) (few many outside : ℕ) (q : Report) → few ≤ many → By o s r v (course_at m few a outside) q
-    → By o s r (more v) (course_at m many b outside) q
+by-more : (o : Outcome) (s : UnitSetting) (r : RequestData) (v : View) (m a b : Bool) (few many outside : ℕ) (q : Report) → few ≤ many → By o s r v (history_at m few a outside) q
+    → By o s r (more v) (history_at m many b outside) q
 by-more Done s r v m a b few many outside q l (inl h) = inl (record { one_end = h.one_end; no_drop = h.no_drop; tries = h.tries; given = h.given })
 by-more Done s r v m a b few many outside q l (inr h) =
     inr (record { no_look = h.no_look; no_end = h.no_end; no_drop = h.no_drop; no_sense = h.no_sense; tries = h.tries; all_tries = h.all_tries; status = h.status; residual = h.residual; bytes = h.bytes })
@@ -161,8 +161,8 @@ by-more Broken s r v m a b few many outside q l h = h
 
 -- a report that fits still fits after one more Clear, with as many Clears in its history or more
 fits-more : (g : Plan) (t : ℕ) (k : Ticket) (v : View) (o : Outcome) (b : Bool) (few many outside : ℕ) → few ≤ many
-    → Fits (setting g (unit_of g t)) t (g.requests t) v (course_at k.marked few k.bus_reset outside) (report_of t (g.requests t) k.status k.lastp k.tries k.buffer [] o)
-    → Fits (setting g (unit_of g t)) t (g.requests t) (more v) (course_at k.marked many b outside) (report_of t (g.requests t) k.status k.lastp k.tries k.buffer [] o)
+    → Fits (setting g (unit_of g t)) t (g.requests t) v (history_at k.marked few k.bus_reset outside) (report_of t (g.requests t) k.status k.lastp k.tries k.buffer [] o)
+    → Fits (setting g (unit_of g t)) t (g.requests t) (more v) (history_at k.marked many b outside) (report_of t (g.requests t) k.status k.lastp k.tries k.buffer [] o)
 fits-more g t k v o b few many outside l f = λ rogue.
     let h = f rogue in
     record {

@@ -27,7 +27,7 @@ use Rattle.target_law.specs.Session.{Task, Session, total_of, remaining, Can, ac
 use Rattle.target_law.specs.Bytes.{advanced, put, data_at}
 use Rattle.ticket_fate.proofs.Buffers.{filled-put}
 use Rattle.target_law.specs.Sound.{HasMoved, IsSoundTask}
-use Rattle.ticket_fate.specs.Tickets.{Plan, unit_of, opening, setting, Asked, Ticket, with_life, course_at, view_for}
+use Rattle.ticket_fate.specs.Tickets.{Plan, unit_of, opening, setting, Asked, Ticket, with_life, history_at, view_for}
 use Rattle.ticket_fate.specs.Fates.{FitsInCheck}
 use Rattle.ticket_fate.specs.Linked.{ShownBySense}
 use Rattle.ticket_fate.specs.Senses.{Unasked, ToAsk, HasAsked, SenseOfReportFits, AsksTask}
@@ -74,7 +74,7 @@ unasked-entry g t given log e n h =
     }
 
 -- a report without sense: where nobody was to ask, or the bus was reset
-pub silent : (g : Plan) (t : ℕ) (k : Ticket) (v : View) (o : Outcome) → Unasked k.sense v → (AsksSense (setting g (unit_of g t)) v (course_at k.marked 0 k.bus_reset 0) → k.bus_reset ≡ false → ⊥) → SenseOfReportFits g t k v o
+pub silent : (g : Plan) (t : ℕ) (k : Ticket) (v : View) (o : Outcome) → Unasked k.sense v → (AsksSense (setting g (unit_of g t)) v (history_at k.marked 0 k.bus_reset 0) → k.bus_reset ≡ false → ⊥) → SenseOfReportFits g t k v o
 silent g t k v o h not = λ rogue. record {
   at_most_one = omega (arith, h.senses);
   none_early = h.early;

@@ -9,7 +9,7 @@ use Rattle.rig_types.specs.declared.report.Outcome.TheVariants.{Done, Cut, Reset
 use Rattle.unit_law.specs.declared.entry.LogEntry.{LogEntry}
 use Rattle.unit_law.specs.Log.{View}
 use Rattle.unit_law.specs.Report.{EndedInCheck, AsksSense, ByEnd, ByRefusal}
-use Rattle.ticket_fate.specs.Tickets.{Plan, unit_of, setting, Waits, Finished, Checked, Asks, AskStarts, AskLost, Asked, AtRogue, Ended, Ticket, with_life, report_of, course_at, asking_ticket, strayed_ticket, view_for}
+use Rattle.ticket_fate.specs.Tickets.{Plan, unit_of, setting, Waits, Finished, Checked, Asks, AskStarts, AskLost, Asked, AtRogue, Ended, Ticket, with_life, report_of, history_at, asking_ticket, rogue_ticket, view_for}
 use Rattle.ticket_fate.specs.Senses.{Unasked, SenseOfReportFits, SenseFate}
 use Rattle.ticket_fate.specs.Fates.{ReportFits, Fate, TicketKept}
 use Rattle.ticket_fate.specs.Moves.{IsToAsk}
@@ -24,7 +24,7 @@ check-only Conflict e = absurd (omega arith)
 check-only QueueFull e = absurd (omega arith)
 
 -- an answer with CHECK CONDITION is that of the block's status byte
-asks-then : (g : Plan) (t : ℕ) (k : Ticket) (v : View) → (g.units (unit_of g t)).rogue ≡ false → ReportFits g t k v Done → AsksSense (setting g (unit_of g t)) v (course_at k.marked 0 k.bus_reset 0) → IsToAsk g t k
+asks-then : (g : Plan) (t : ℕ) (k : Ticket) (v : View) → (g.units (unit_of g t)).rogue ≡ false → ReportFits g t k v Done → AsksSense (setting g (unit_of g t)) v (history_at k.marked 0 k.bus_reset 0) → IsToAsk g t k
 asks-then g t k v rogue f z = by (f rogue).by
   where
     by : ByEnd (g.requests t) v (report_of t (g.requests t) k.status k.lastp k.tries k.buffer [] Done) ⊎ ByRefusal g.retries (g.requests t) v (report_of t (g.requests t) k.status k.lastp k.tries k.buffer [] Done) → IsToAsk g t k
@@ -90,9 +90,9 @@ module _ (g : Plan) (t : ℕ) (k : Ticket) (log : List LogEntry) (s : TicketKept
   pub rogue-selected-kept : k.life ≡ Waits → (g.units (unit_of g t)).rogue ≡ true → TicketKept g t (with_life k AtRogue) log
   rogue-selected-kept e r = record { fate = r; sense = tt; absent = λ a. ((s.absent a).0, tt); since = s.since; before = s.before }
 
-  pub strayed-kept : (status lastp savep tries : ℕ) (buffer area : List ℕ) → k.life ≡ AtRogue → TicketKept g t (strayed_ticket k status lastp savep tries buffer area) log
-  strayed-kept status lastp savep tries buffer area e =
-      let j = strayed_ticket k status lastp savep tries buffer area in
+  pub rogue-moved-kept : (status lastp savep tries : ℕ) (buffer area : List ℕ) → k.life ≡ AtRogue → TicketKept g t (rogue_ticket k status lastp savep tries buffer area) log
+  rogue-moved-kept status lastp savep tries buffer area e =
+      let j = rogue_ticket k status lastp savep tries buffer area in
       record {
         fate = subst (λ l. Fate g t l j v) (sym e) (fate_at g t k log AtRogue s e);
         sense = subst (λ l. SenseFate g t l j v) (sym e) tt;

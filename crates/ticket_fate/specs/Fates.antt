@@ -13,7 +13,7 @@ use Rattle.unit_law.specs.Report.{Fits, EndedInCheck, holding, data_of}
 use Rattle.target_law.specs.Session.{Task}
 use Rattle.logs_have_room.specs.Room.{entries}
 use Rattle.ticket_fate.specs.Senses.{SenseFate}
-use Rattle.ticket_fate.specs.Tickets.{Plan, unit_of, setting, Life, Unbuilt, Built, Linked, ToRequeue, Waits, Selected, Connected, Away, Lost, Rejected, Finished, Checked, Asks, AskStarts, AskConnected, AskLost, Asked, AtRogue, Ended, Unlinked, Freed, Ticket, course_at, course_of, report_of, view_for}
+use Rattle.ticket_fate.specs.Tickets.{Plan, unit_of, setting, Life, Unbuilt, Built, Linked, ToRequeue, Waits, Selected, Connected, Away, Lost, Rejected, Finished, Checked, Asks, AskStarts, AskConnected, AskLost, Asked, AtRogue, Ended, Unlinked, Freed, Ticket, history_at, history_so_far, report_of, view_for}
 
 -- the log has nothing of it but n refusals
 pub record OnlyRefusals (v : View) (n : ℕ) : Type 0 where
@@ -60,11 +60,11 @@ pub record HasTask (retries : ℕ) (r : RequestData) (named tries : ℕ) (buffer
 
 -- the report that its Free would make, without its sense, fits
 abbrev pub ReportFits : Plan → ℕ → Ticket → View → Outcome → Type 0
-ReportFits g t k v o = Fits (setting g (unit_of g t)) t (g.requests t) v (course_of k.marked k.since k.bus_reset v) (report_of t (g.requests t) k.status k.lastp k.tries k.buffer [] o)
+ReportFits g t k v o = Fits (setting g (unit_of g t)) t (g.requests t) v (history_so_far k.marked k.since k.bus_reset v) (report_of t (g.requests t) k.status k.lastp k.tries k.buffer [] o)
 
 -- after its Free, with the history that was fixed then, and whatever was logged of it since
 abbrev pub FreedReportFits : Plan → ℕ → Ticket → View → Outcome → Type 0
-FreedReportFits g t k v o = Fits (setting g (unit_of g t)) t (g.requests t) v (course_at k.marked k.clears k.bus_reset (k.before + (entries v.tally - k.logged))) (report_of t (g.requests t) k.status k.lastp k.tries k.buffer [] o)
+FreedReportFits g t k v o = Fits (setting g (unit_of g t)) t (g.requests t) v (history_at k.marked k.clears k.bus_reset (k.before + (entries v.tally - k.logged))) (report_of t (g.requests t) k.status k.lastp k.tries k.buffer [] o)
 
 abbrev pub FitsInCheck : Plan → ℕ → Ticket → View → Type 0
 FitsInCheck g t k v = ReportFits g t k v Done × EndedInCheck v

@@ -9,19 +9,19 @@ use Rattle.ticket_fate.specs.Linked.{ResetCause, ByBus, ByDevice, log_of}
 use Rattle.ticket_fate.specs.Moves.{target_of, Moves, marks, resets_idle, resets_work, resets_asking}
 
 -- not yet queued; queued at least once, and not yet reported; reported
-pub data Course : Type 0 where
-  NotQueued : Course
-  UnderWay : Course
-  Reported : Course
+pub data Progress : Type 0 where
+  NotQueued : Progress
+  UnderWay : Progress
+  Reported : Progress
 
-abbrev pub course : Life → Course
-course Unbuilt = NotQueued
-course Built = NotQueued
-course Linked = NotQueued
-course (Freed o) = Reported
-course _ = UnderWay
+abbrev pub progress_of : Life → Progress
+progress_of Unbuilt = NotQueued
+progress_of Built = NotQueued
+progress_of Linked = NotQueued
+progress_of (Freed o) = Reported
+progress_of _ = UnderWay
 
-abbrev pub is_under_way : Course → Bool
+abbrev pub is_under_way : Progress → Bool
 is_under_way NotQueued = false
 is_under_way UnderWay = true
 is_under_way Reported = false
@@ -54,7 +54,7 @@ count_if false n = 0
 abbrev pub noted_by : (k : Ticket) (before after : Tally) (marked bus device : Bool) → TicketHistory → TicketHistory
 noted_by k before after marked bus device h = record {
   marked = h.marked || marked;
-  clears = h.clears + count_if (is_under_way (course k.life)) (after.clears - before.clears);
+  clears = h.clears + count_if (is_under_way (progress_of k.life)) (after.clears - before.clears);
   bus_reset = h.bus_reset || (bus && (nat_lt 0 before.ends && is_live k.life));
   outside = h.outside + count_if (not (is_live k.life)) (entries after - entries before);
   uncaused_clears = h.uncaused_clears + count_if (not (bus || device)) (after.clears - before.clears);

@@ -7,7 +7,7 @@ use Rattle.unit_law.specs.Log.{run_log, tally}
 use Rattle.unit_law.specs.Report.{TicketHistory, Fits, SenseFits}
 use Rattle.target_law.specs.Target.{LogicalUnit, BusFree, Target, unit_at, unit_opened}
 use Rattle.logs_have_room.specs.Room.{IsFew}
-use Rattle.ticket_fate.specs.Tickets.{Plan, unit_of, setting, opening, Unbuilt, Freed, Ticket, freed_report, course_at, view_for}
+use Rattle.ticket_fate.specs.Tickets.{Plan, unit_of, setting, opening, Unbuilt, Freed, Ticket, freed_report, history_at, view_for}
 use Rattle.ticket_fate.specs.Linked.{IsPlan}
 use Rattle.ticket_fate.specs.Moves.{target_of}
 use Rattle.ticket_fate.specs.Histories.{Run, history}
@@ -40,7 +40,7 @@ ReportsFit = (g : Plan) (count : ℕ) (ns : ℕ → Ticket) (us : ℕ → Target
 -- the history of a freed ticket is as it was at its Free
 abbrev pub HistoriesEnd : Type 0
 HistoriesEnd = (g : Plan) (count : ℕ) (ns : ℕ → Ticket) (us : ℕ → Target) → (r : Reached g count ns us) → (x : ℕ) (o : Outcome) → (ns x).life ≡ Freed o
-    → history x r.from.3 ≡ course_at (ns x).marked (ns x).clears (ns x).bus_reset 0
+    → history x r.from.3 ≡ history_at (ns x).marked (ns x).clears (ns x).bus_reset 0
 
 -- each unit is there, and is what its log makes of its opening
 abbrev pub UnitsRunTheirLogs : Type 0

@@ -22,7 +22,7 @@ use Rattle.target_law.specs.Target as connection_state
 use Rattle.target_law.specs.Target.{LogicalUnit, ConnectionState, BusFree, TakingCommand, TaskConnected, RogueConnected, Target, unit_at, with_unit, session, linked, ends, leaves, drops, target_reset}
 use Rattle.target_law.specs.Calls.{target_acted, task_reselected, begun, has_ended}
 use Rattle.logs_have_room.specs.Room.{entries}
-use Rattle.ticket_fate.specs.Tickets.{Plan, unit_of, Life, Unbuilt, Built, Linked, ToRequeue, Waits, Selected, Connected, Away, Lost, Rejected, Finished, Checked, Asks, AskStarts, AskConnected, AskLost, Asked, AtRogue, Ended, Unlinked, Freed, Ticket, with_life, built_ticket, queued_ticket, asking_ticket, strayed_ticket, freed_ticket, ticket_sent, ticket_asked, view_for}
+use Rattle.ticket_fate.specs.Tickets.{Plan, unit_of, Life, Unbuilt, Built, Linked, ToRequeue, Waits, Selected, Connected, Away, Lost, Rejected, Finished, Checked, Asks, AskStarts, AskConnected, AskLost, Asked, AtRogue, Ended, Unlinked, Freed, Ticket, with_life, built_ticket, queued_ticket, asking_ticket, rogue_ticket, freed_ticket, ticket_sent, ticket_asked, view_for}
 use Rattle.ticket_fate.specs.Linked.{HasRogue, ResetCause, ByBus, CanReset, reset_tickets}
 
 -- what the verdict that is shown says: LASTP stands at the position, and STATUS has the byte
@@ -59,7 +59,7 @@ pub data TicketMove (g : Plan) (x : ℕ) (v : View) : Ticket → Ticket → Type
   takes_sense : {k : Ticket} → k.life ≡ Asked → TicketMove g x v k (record k { life = Ended Done; sense = k.area })
   sweeps_asking : {k : Ticket} → k.life ≡ AskLost → TicketMove g x v k (with_life k (Ended Done))
   selects_rogue : {k : Ticket} → k.life ≡ Waits → (g.units (unit_of g x)).rogue ≡ true → TicketMove g x v k (with_life k AtRogue)
-  strays : {k : Ticket} (status lastp savep tries : ℕ) (buffer area : List ℕ) → k.life ≡ AtRogue → TicketMove g x v k (strayed_ticket k status lastp savep tries buffer area)
+  rogue_moves : {k : Ticket} (status lastp savep tries : ℕ) (buffer area : List ℕ) → k.life ≡ AtRogue → TicketMove g x v k (rogue_ticket k status lastp savep tries buffer area)
   ends_rogue : {k : Ticket} (o : Outcome) → k.life ≡ AtRogue → TicketMove g x v k (with_life k (Ended o))
   sweeps : {k : Ticket} → k.life ≡ Lost → TicketMove g x v k (with_life k (Ended Reset))
   unlinks : {k : Ticket} (o : Outcome) → k.life ≡ Ended o → TicketMove g x v k (with_life k (Unlinked o))

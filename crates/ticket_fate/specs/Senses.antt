@@ -7,7 +7,7 @@ use Rattle.plain_lun.specs.Performing.{perform}
 use Rattle.unit_law.specs.Log.{View}
 use Rattle.unit_law.specs.Report.{EndedInCheck, SenseFits, filled, data_of}
 use Rattle.target_law.specs.Session.{Task}
-use Rattle.ticket_fate.specs.Tickets.{Plan, unit_of, setting, Life, Unbuilt, Checked, Asks, AskStarts, AskConnected, AskLost, Asked, AtRogue, Ended, Unlinked, Freed, Ticket, course_at, freed_report}
+use Rattle.ticket_fate.specs.Tickets.{Plan, unit_of, setting, Life, Unbuilt, Checked, Asks, AskStarts, AskConnected, AskLost, Asked, AtRogue, Ended, Unlinked, Freed, Ticket, history_at, freed_report}
 
 -- nothing of sense was logged, and none is given
 pub record Unasked (given : List ℕ) (v : View) : Type 0 where
@@ -34,7 +34,7 @@ pub record HasAsked (g : Plan) (area : List ℕ) (marked : Bool) (v : View) : Ty
 
 -- the sense of the report that its Free would make fits; of the history the marks and the bus reset count
 abbrev pub SenseOfReportFits : Plan → ℕ → Ticket → View → Outcome → Type 0
-SenseOfReportFits g t k v o = SenseFits (setting g (unit_of g t)) v (course_at k.marked 0 k.bus_reset 0) (freed_report t (g.requests t) k o)
+SenseOfReportFits g t k v o = SenseFits (setting g (unit_of g t)) v (history_at k.marked 0 k.bus_reset 0) (freed_report t (g.requests t) k o)
 
 abbrev pub SenseFate : Plan → ℕ → Life → Ticket → View → Type 0
 SenseFate g t Unbuilt k v = Unasked [] v

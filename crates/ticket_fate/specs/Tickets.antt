@@ -97,12 +97,12 @@ abbrev pub with_life : Ticket → Life → Ticket
 with_life k l = record k { life = l }
 
 -- the history of a ticket with so many Clears, and so many of its entries outside its life; of the causes of Clears nothing is said here
-abbrev pub course_at : (marked : Bool) → (clears : ℕ) → (bus_reset : Bool) → (outside : ℕ) → TicketHistory
-course_at marked clears bus_reset outside = record { marked = marked; clears = clears; bus_reset = bus_reset; outside = outside; uncaused_clears = 0 }
+abbrev pub history_at : (marked : Bool) → (clears : ℕ) → (bus_reset : Bool) → (outside : ℕ) → TicketHistory
+history_at marked clears bus_reset outside = record { marked = marked; clears = clears; bus_reset = bus_reset; outside = outside; uncaused_clears = 0 }
 
 -- the history so far, before its Free
-abbrev pub course_of : (marked : Bool) → (since : ℕ) → (bus_reset : Bool) → View → TicketHistory
-course_of marked since bus_reset v = course_at marked (v.tally.clears - since) bus_reset 0
+abbrev pub history_so_far : (marked : Bool) → (since : ℕ) → (bus_reset : Bool) → View → TicketHistory
+history_so_far marked since bus_reset v = history_at marked (v.tally.clears - since) bus_reset 0
 
 -- what a report says of an outcome
 abbrev pub status_for : Outcome → ℕ → ℕ
@@ -165,5 +165,5 @@ ticket_asked (DataIn n) at b k x = record k { area = put k.area at b; task = x }
 ticket_asked _ at b k x = record k { task = x }
 
 -- a unit that breaks the rules does what it likes with the ticket, and the driver may queue it again
-abbrev pub strayed_ticket : Ticket → (status lastp savep tries : ℕ) → (buffer area : List ℕ) → Ticket
-strayed_ticket k status lastp savep tries buffer area = record k { status = status; lastp = lastp; savep = savep; tries = tries; buffer = buffer; area = area }
+abbrev pub rogue_ticket : Ticket → (status lastp savep tries : ℕ) → (buffer area : List ℕ) → Ticket
+rogue_ticket k status lastp savep tries buffer area = record k { status = status; lastp = lastp; savep = savep; tries = tries; buffer = buffer; area = area }

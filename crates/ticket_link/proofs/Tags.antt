@@ -12,7 +12,7 @@ use Rattle.target_law.specs.Bytes.{Connection}
 use Rattle.target_law.specs.Target.{TaskConnected, Target, session}
 use Rattle.ticket_fate.specs.Tickets.{Plan, unit_of, Life, Unbuilt, Asks, Selected, is_live, Ticket, ticket_sent, ticket_asked, view_for}
 use Rattle.ticket_fate.specs.Linked.{IsPlan, UnitKept, ResetCause, ByBus, ByDevice, lost_life, reset_ticket, log_of}
-use Rattle.ticket_fate.specs.Moves.{CompletesTicket, parts_ticket, TicketMove, builds, links, queues, requeues, selects, times_out, cancels, takes_again, takes_refused, takes, takes_checked, asks, ask_selects, takes_sense, sweeps_asking, selects_rogue, strays, ends_rogue, sweeps, unlinks, frees, target_of, Moves, alone, points, marks, relinks, acts, sends, receives, hears, listens, leaves_bus, completes, drops_task, reselects, begins, ask_sends, ask_completes, ask_begins, resets_idle, resets_work, resets_asking}
+use Rattle.ticket_fate.specs.Moves.{CompletesTicket, parts_ticket, TicketMove, builds, links, queues, requeues, selects, times_out, cancels, takes_again, takes_refused, takes, takes_checked, asks, ask_selects, takes_sense, sweeps_asking, selects_rogue, rogue_moves, ends_rogue, sweeps, unlinks, frees, target_of, Moves, alone, points, marks, relinks, acts, sends, receives, hears, listens, leaves_bus, completes, drops_task, reselects, begins, ask_sends, ask_completes, ask_begins, resets_idle, resets_work, resets_asking}
 use Rattle.ticket_fate.specs.Kept.{AllKept}
 use Rattle.ticket_fate.specs.Histories.{Run, none, more}
 use Rattle.ticket_fate.specs.Laws.{Opens}
@@ -43,7 +43,7 @@ alone-tag g x v k j (ask_selects e) = inl (refl, λ l. ap is_live e)
 alone-tag g x v k j (takes_sense e) = inl (refl, λ l. ap is_live e)
 alone-tag g x v k j (sweeps_asking e) = inl (refl, λ l. ap is_live e)
 alone-tag g x v k j (selects_rogue e r) = inl (refl, λ l. ap is_live e)
-alone-tag g x v k j (strays status lastp savep tries buffer area e) = inl (refl, λ l. ap is_live e)
+alone-tag g x v k j (rogue_moves status lastp savep tries buffer area e) = inl (refl, λ l. ap is_live e)
 alone-tag g x v k j (ends_rogue o e) = inl (refl, λ l. ap is_live e)
 alone-tag g x v k j (sweeps e) = inl (refl, λ l. ap is_live e)
 alone-tag g x v k j (unlinks o e) = inl (refl, λ l. ap is_live e)

@@ -12,7 +12,7 @@ use Rattle.desk_law.specs.Desk.{no_unit}
 use Rattle.word_owners.specs.Additions.{IsAdded, AddHolds}
 use Rattle.word_owners.specs.Tickets.{Fixed, Tickets, tickets_of, block_of, unit_of, target_of, goal, way, IsLive, IsActive, IsBound, AreTickets}
 use Rattle.word_owners.specs.Pointers.{IsSuffix, IsPointer, IsWay, AreFilled, Names, move_place}
-use Rattle.word_owners.specs.Points.{Point, about, Work, OfTicket, Entering, Selected, Ending, Carrying, Moving, Behind, Returning, Naming, Choosing, Finding, Listed, Tagged, InTable, Offset, Candidate, Saved, At068, At070, At078, At080, At088, At090, At098, At0A0, At0A8, At0B0, At0B8, At0C0, At0C8, At0D0, At0D8, At0E0, At0E8, At0F0, At0F8, At100, At108, At110, At118, At120, At128, At130, At138, At140, At148, At1A8, At1B0, At1B8, At1C8, At278, At280, At288, At2B8, At340, At3C8, At3D0, At3D8, At448, At450, At458, BehindContext, LeavesContext, Moves}
+use Rattle.word_owners.specs.Points.{Point, about, Work, OfTicket, Entering, Selected, Ending, Carrying, Moving, Behind, Returning, Naming, ChoosingTarget, Finding, Listed, Tagged, InTable, Offset, Candidate, Saved, At068, At070, At078, At080, At088, At090, At098, At0A0, At0A8, At0B0, At0B8, At0C0, At0C8, At0D0, At0D8, At0E0, At0E8, At0F0, At0F8, At100, At108, At110, At118, At120, At128, At130, At138, At140, At148, At1A8, At1B0, At1B8, At1C8, At278, At280, At288, At2B8, At340, At3C8, At3D0, At3D8, At448, At450, At458, BehindContext, LeavesContext, Moves}
 use Rattle.word_owners.specs.Parts.{Counts, Parts, TagTables, StartRing, DoneRing, Waits, IsBegun, IsOver, IsThere, Asks, IsFront, IsEntry, IsBlock, IsFresh, HasAnswered, NotStarting, NotEntered, MayWork}
 use Rattle.word_owners.specs.Works.{Role, Nothing, First, Asked, Working, Closing, Done, role, worker, Plays, Extra, Works, IsUnitOf}
 use Rattle.word_owners.specs.Holds.{Spot, Running, Mismatched, Fixed as FixedSpot, work_at, link_at, closing_at}
@@ -281,7 +281,7 @@ module _ (version : ℕ) (w n : ℕ → ℕ) (ts new : Tickets) (t : ℕ) (c : C
       (h.0, subst (λ (l : List ℕ). IsSuffix l (goal (ts.fixed u))) (sym (segments-same w n (block_of ts u) j h.0 (table u (s u refl)))) h.1, filled-frame w n (block_of ts u) j (table u (s u refl)) h.2, h.3)
   extra-added (Returning u x) s h = h
   extra-added (Naming r) s h = h
-  extra-added (Choosing r j) s h = subst (λ (us : List RigUnit). (r < 8) × (j < length (target_ops us))) (sym a.units) h
+  extra-added (ChoosingTarget r j) s h = subst (λ (us : List RigUnit). (r < 8) × (j < length (target_ops us))) (sym a.units) h
   extra-added (Finding r j) s h = subst (λ (us : List RigUnit). (r < 8) × (has_target us r ≡ true) × (j < length (lun_ops us r))) (sym a.units) h
   extra-added (Listed u r) s h = unit-added u r h
   extra-added (Tagged u g r) s h = (unit-added u r h.0, h.1)

@@ -4,7 +4,7 @@ use Rattle.host_map.specs.declared.TheConstants.{FRONT, CUR}
 use Rattle.host_map.specs.Places.{start_slot, IsCommandBlock}
 use Rattle.word_owners.specs.Tickets.{Tickets, block_of, goal, way, IsActive, AreTickets}
 use Rattle.word_owners.specs.Pointers.{IsSuffix, move_place}
-use Rattle.word_owners.specs.Points.{Work, Entering, Selected, Ending, Carrying, Moving, Behind, Returning, Naming, Choosing, Finding, Listed, Tagged, InTable, Offset, Candidate, Saved}
+use Rattle.word_owners.specs.Points.{Work, Entering, Selected, Ending, Carrying, Moving, Behind, Returning, Naming, ChoosingTarget, Finding, Listed, Tagged, InTable, Offset, Candidate, Saved}
 use Rattle.word_owners.specs.Parts.{Counts, NotStarting, NotEntered}
 use Rattle.word_owners.specs.Works.{Role, Nothing, First, Asked, Working, Closing, Done, role, worker, Plays, Extra, Works}
 use Rattle.word_owners.proofs.Frames.{Same, SameState, active-live, segments-same, filled-frame, names-frame, pointer-frame, waits-frame, begun-frame, over-frame}
@@ -53,7 +53,7 @@ module _ (w n : ℕ → ℕ) (ts : Tickets) (c d : Counts) (a : AreTickets ts) w
   extra-onward (Ending t v) o s h = h
   extra-onward (Returning t x) o s h = h
   extra-onward (Naming r) o s h = h
-  extra-onward (Choosing r j) o s h = h
+  extra-onward (ChoosingTarget r j) o s h = h
   extra-onward (Finding r j) o s h = h
   extra-onward (Listed u r) o s h = h
   extra-onward (Tagged u x r) o s h = h

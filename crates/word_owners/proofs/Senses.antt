@@ -32,7 +32,7 @@ use Rattle.world_law.specs.declared.reply.Stop.{Stop}
 use Rattle.world_law.specs.declared.reply.Stop.TheVariants as stop
 use Rattle.word_owners.specs.Tickets.{Fixed, Tickets, tickets_of, fixed_of, block_of, target_of, goal, way, IsLive, IsActive, IsBound, IsTurned, AreTickets}
 use Rattle.word_owners.specs.Pointers.{IsSuffix, Names, IsPointer, AreFilled, IsWay, move_place}
-use Rattle.word_owners.specs.Points.{Work, Entering, Selected, Ending, Carrying, Moving, Behind, Returning, Naming, Choosing, Finding, Listed, Tagged, InTable, Offset, Candidate, Saved}
+use Rattle.word_owners.specs.Points.{Work, Entering, Selected, Ending, Carrying, Moving, Behind, Returning, Naming, ChoosingTarget, Finding, Listed, Tagged, InTable, Offset, Candidate, Saved}
 use Rattle.word_owners.specs.Parts.{Counts, Parts, TagTables, Waits, IsBegun, IsOver, IsEntry, IsBlock, NotStarting, MayWork, HasAnswered, IsFresh}
 use Rattle.word_owners.specs.Works.{Role, Nothing, First, Asked, Working, Closing, Done, role, worker, Plays, Extra, Works}
 use Rattle.word_owners.specs.Holds.{Spot, Mismatched, ResetAt, Stays, HoldsFor, closing_at, work_at, link_at}
@@ -321,7 +321,7 @@ module _ (version : ℕ) (v n : ℕ → ℕ) (ts : Tickets) (flags : ℕ → Boo
   extra-sensed (Ending u x) g s h = h
   extra-sensed (Returning u x) g s h = h
   extra-sensed (Naming r) g s h = h
-  extra-sensed (Choosing r j) g s h = h
+  extra-sensed (ChoosingTarget r j) g s h = h
   extra-sensed (Finding r j) g s h = h
   extra-sensed (Listed u r) g s h = h
   extra-sensed (Tagged u x r) g s h = h

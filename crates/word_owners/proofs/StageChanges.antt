@@ -6,7 +6,7 @@ use Rattle.phase_fix.specs.Remain.{field}
 use Rattle.desk_law.specs.declared.stage.Stage.{Stage}
 use Rattle.desk_law.specs.declared.stage.Stage.TheVariants.{Check, Sensing}
 use Rattle.word_owners.specs.Tickets.{Tickets, block_of, target_of, IsLive, IsActive, IsBound, IsTurned, AreTickets}
-use Rattle.word_owners.specs.Points.{Work, Entering, Selected, Ending, Carrying, Moving, Behind, Returning, Naming, Choosing, Finding, Listed, Tagged, InTable, Offset, Candidate, Saved}
+use Rattle.word_owners.specs.Points.{Work, Entering, Selected, Ending, Carrying, Moving, Behind, Returning, Naming, ChoosingTarget, Finding, Listed, Tagged, InTable, Offset, Candidate, Saved}
 use Rattle.word_owners.specs.Parts.{Counts, Parts, Waits, IsBegun, IsOver, IsThere, StartRing, DoneRing, NotEntered, Asks, IsFront, IsEntry, TagTables, IsStart, IsBlock, MayWork, HasAnswered, IsFresh}
 use Rattle.word_owners.specs.Works.{Role, Nothing, First, Asked, Working, Closing, Done, role, worker, Plays, Extra, Works}
 use Rattle.word_owners.proofs.Frames.{same_or, active-live}
@@ -253,7 +253,7 @@ module _ (w : ℕ → ℕ) (ts : Tickets) (new : ℕ → Stage) (t : ℕ) (s : S
   extra-turned (Behind u phase j) l h = h
   extra-turned (Returning u a) l h = h
   extra-turned (Naming r) l h = h
-  extra-turned (Choosing r j) l h = h
+  extra-turned (ChoosingTarget r j) l h = h
   extra-turned (Finding r j) l h = h
   extra-turned (Listed u r) l h = h
   extra-turned (Tagged u g r) l h = h

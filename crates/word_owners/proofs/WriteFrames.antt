@@ -10,7 +10,7 @@ use Rattle.desk_law.specs.declared.stage.Stage.{Stage}
 use Rattle.desk_law.specs.declared.stage.Stage.TheVariants.{Built, Linked, Freed}
 use Rattle.word_owners.specs.Tickets.{Tickets, block_of, target_of, goal, way, IsLive, AreTickets}
 use Rattle.word_owners.specs.Pointers.{IsSuffix, move_place}
-use Rattle.word_owners.specs.Points.{Work, Entering, Selected, Ending, Carrying, Moving, Behind, Returning, Naming, Choosing, Finding, Listed, Tagged, InTable, Offset, Candidate, Saved}
+use Rattle.word_owners.specs.Points.{Work, Entering, Selected, Ending, Carrying, Moving, Behind, Returning, Naming, ChoosingTarget, Finding, Listed, Tagged, InTable, Offset, Candidate, Saved}
 use Rattle.word_owners.specs.Parts.{Counts, Parts, TagTables, Asks, IsBlock, IsThere, MayWork, HasAnswered, IsFresh}
 use Rattle.word_owners.specs.Works.{Role, Nothing, First, Asked, Working, Closing, Done, role, worker, Plays, Extra, Works}
 use Rattle.word_owners.proofs.Frames.{Same, SameState, same_or, active-live, other-block, loaded-frame, chains-frame, constants-frame, fixed-frame, segments-same, filled-frame, names-frame, pointer-frame, block-frame, waits-frame, begun-frame, over-frame, start-frame, done-frame, entry-frame, front-frame, not_starting-frame, not_entered-frame}
@@ -195,7 +195,7 @@ module _ (version : ℕ) (w n : ℕ → ℕ) (ts : Tickets) (c : Counts) (o : Op
     extra-block (Ending u v) s g h = h
     extra-block (Returning u a) s g h = h
     extra-block (Naming r) s g h = h
-    extra-block (Choosing r j) s g h = h
+    extra-block (ChoosingTarget r j) s g h = h
     extra-block (Finding r j) s g h = h
     extra-block (Listed u r) s g h = h
     extra-block (Tagged u x r) s g h = h

@@ -34,7 +34,7 @@ pub data Work : Type 0 where
   Returning : ℕ → ℕ → Work
   -- a target that has reselected: by its number, and at an instruction of a chain
   Naming : ℕ → Work
-  Choosing : ℕ → ℕ → Work
+  ChoosingTarget : ℕ → ℕ → Work
   Finding : ℕ → ℕ → Work
   -- a unit of it, with a tag, with a tag and a table, and with the offset of a tag in a table
   Listed : ℕ → ℕ → Work
@@ -283,7 +283,7 @@ about (At040 t a) = at 0x040 (Entering t a) Nobody (dsa_temp_scratchb OwnBlock (
 about At048 = at 0x048 Free Nobody nothing
 about (At050 r) = at 0x050 (Naming r) (OfTarget r) (ssid (Number (128 + r)))
 about (At058 r) = at 0x058 (Naming r) (OfTarget r) (sfbr (Number r))
-about (InTargets r j) = at (CHAINS + 8 * j) (Choosing r j) (OfTarget r) (sfbr (Number r))
+about (InTargets r j) = at (CHAINS + 8 * j) (ChoosingTarget r j) (OfTarget r) (sfbr (Number r))
 about (InLuns r j) = at (target_chain r + 8 * j) (Finding r j) (OfTarget r) nothing
 about (AtUnit u r) = at (unit_chain u) (Listed u r) (OfTarget r) nothing
 about (BehindUnit u r) = at (unit_chain u + 8) (Listed u r) (OfTarget r) (dsa (Table u 0))

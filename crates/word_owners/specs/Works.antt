@@ -12,7 +12,7 @@ use Rattle.chip_regs.specs.declared.registers.Regs.{Regs}
 use Rattle.desk_law.specs.Desk.{no_unit}
 use Rattle.word_owners.specs.Tickets.{Tickets, block_of, target_of, goal, way, IsLive}
 use Rattle.word_owners.specs.Pointers.{IsSuffix, IsPointer, Names, AreFilled, IsWay, move_place}
-use Rattle.word_owners.specs.Points.{Work, Head, Entering, Selected, Front, Begun, Ending, Carrying, Moving, Behind, Returning, Naming, Choosing, Finding, Listed, Tagged, InTable, Offset, Candidate, Over, Saved, Value, Number, OwnBlock, ThisStart, NextStart, NextDone, LastDone, Table, TagEntry, Held}
+use Rattle.word_owners.specs.Points.{Work, Head, Entering, Selected, Front, Begun, Ending, Carrying, Moving, Behind, Returning, Naming, ChoosingTarget, Finding, Listed, Tagged, InTable, Offset, Candidate, Over, Saved, Value, Number, OwnBlock, ThisStart, NextStart, NextDone, LastDone, Table, TagEntry, Held}
 use Rattle.word_owners.specs.Parts.{Counts, Waits, IsBegun, IsOver, Asks, NotStarting, NotEntered, MayWork, IsThere, Queues}
 
 -- ---- the ticket at work
@@ -74,7 +74,7 @@ Extra (Behind t phase j) w ts =
     (j ≤ 16) × IsSuffix (segments_from w (block_of ts t) j) (goal (ts.fixed t)) × AreFilled w (block_of ts t) j × IsWay (way (ts.fixed t)) phase
 Extra (Returning t a) w ts = (a ≡ label_of label.Restore) ⊎ (a ≡ label_of label.Abort)
 Extra (Naming r) w ts = r < 8
-Extra (Choosing r j) w ts = (r < 8) × (j < length (target_ops ts.units))
+Extra (ChoosingTarget r j) w ts = (r < 8) × (j < length (target_ops ts.units))
 Extra (Finding r j) w ts = (r < 8) × (has_target ts.units r ≡ true) × (j < length (lun_ops ts.units r))
 Extra (Listed u r) w ts = IsUnitOf ts u r
 Extra (Tagged u g r) w ts = IsUnitOf ts u r × (g < 256)
