@@ -1,5 +1,5 @@
 -- A bench stays one under the answer to a step.
-use Rattle.std.proofs.Common.{arith, ◌≡◌, ◌≢◌, ◌<◌, ◌≤◌, ◌+◌, ℕ, Bool, true, false, List, [], ◌∷◌, length, Option, Some, None, refl, sym, ap, subst, ◌∙◌, inl, inr}
+use Rattle.std.proofs.Common.{arith, ◌≡◌, ◌≢◌, ◌<◌, ◌≤◌, ℕ, Bool, true, false, List, [], ◌∷◌, length, Option, Some, None, refl, sym, ap, subst, ◌∙◌, inl, inr}
 use Rattle.std.proofs.lemmas.List.{length-append}
 use Rattle.rig_types.specs.declared.step.Step.{Step}
 use Rattle.rig_types.specs.declared.step.Step.TheVariants as step
@@ -8,7 +8,6 @@ use Rattle.rig_types.specs.declared.commands.Command.{Command}
 use Rattle.world_law.specs.declared.reply.Reply.{Reply}
 use Rattle.world_law.specs.declared.reply.Reply.TheVariants as reply
 use Rattle.world_law.specs.World.{BenchSetting, World, command_at}
-use Rattle.world_law.specs.Lines.{drained}
 use Rattle.world_law.specs.Enabling.{Enabled}
 use Rattle.world_law.specs.Runs.{Moment, decides_line, is_recorded}
 use Rattle.world_law.specs.Answers.{WithinLimit, Answers, at_limit, not_now, no_memory, done}

@@ -3,3 +3,9 @@ pub mod Growth
 pub mod Settled
 pub mod Opened
 pub mod Answered
+pub mod Made
+pub mod UnitsGrow
+pub mod BusesGrow
+pub mod WorldsGrow
+pub mod UnitsStand
+pub mod AsMachine

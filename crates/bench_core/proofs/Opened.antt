@@ -1,5 +1,5 @@
 -- A bench at its opening is one.
-use Rattle.std.proofs.Common.{arith, ◌≡◌, ◌≤◌, ℕ, List, [], length, refl, sym, subst}
+use Rattle.std.proofs.Common.{arith, ◌≡◌, ◌≤◌, ℕ, List, [], sym, subst}
 use Rattle.rig_types.specs.declared.step.Entry.{Entry}
 use Rattle.world_law.specs.World.{BenchSetting, World}
 use Rattle.world_law.specs.Opening.{opened}

@@ -3,7 +3,7 @@ use Rattle.std.proofs.Common.{◌≡◌, List, [], ◌∷◌, ◌++◌, refl, sy
 use Rattle.rig_types.specs.declared.step.Entry.{Entry}
 use Rattle.world_law.specs.World.{BenchSetting, World}
 use Rattle.world_law.specs.Opening.{opened}
-use Rattle.world_law.specs.Runs.{Moment, Steps, IsRun, last, entries}
+use Rattle.world_law.specs.Runs.{Moment, Steps, last, entries}
 use Rattle.world_law.proofs.RunLaws.{goes_on}
 use Rattle.bench_core.specs.Histories.{IsReplayed}
 

@@ -1,5 +1,5 @@
 -- Every ticket has one line: so the lines that are settled are those that were refused and as many as tickets are freed.
-use Rattle.std.proofs.Common.{arith, ◌≡◌, ◌<◌, ◌≤◌, Bool, true, false, not, cond, ℕ, zero, suc, ◌+◌, List, [], ◌∷◌, ◌++◌, length, replicate, slice_get, slice_set, slice_index_or, Option, Some, None, inl, inr, refl, sym, ap, subst, ◌∙◌}
+use Rattle.std.proofs.Common.{arith, ◌≡◌, ◌<◌, ◌≤◌, Bool, true, false, cond, ℕ, zero, suc, ◌+◌, List, [], ◌∷◌, ◌++◌, length, replicate, slice_get, slice_set, slice_index_or, Option, Some, None, inl, inr, refl, sym, ap, subst, ◌∙◌}
 use Rattle.std.specs.List.{sum_by, count_by, range_with_len}
 use Rattle.std.proofs.lemmas.List.{length-set, length-append, length-replicate}
 use Rattle.std.proofs.lemmas.List.Sums.{sum_by-set, sum_by-append, sum_by-cons, count_by-le-length}
@@ -13,7 +13,7 @@ use Rattle.rig_types.specs.declared.step.Step.{Step}
 use Rattle.rig_types.specs.declared.step.Step.TheVariants as step
 use Rattle.desk_law.specs.declared.refused.Refused.{Refused}
 use Rattle.desk_law.specs.declared.ticket.Ticket.{Ticket}
-use Rattle.desk_law.specs.Desk.{DeskState, no_ticket, ticket, lives}
+use Rattle.desk_law.specs.Desk.{DeskState, no_ticket, ticket}
 use Rattle.desk_law.specs.Rings.{done_ticket}
 use Rattle.world_law.specs.declared.reply.Decided.{Decided}
 use Rattle.world_law.specs.declared.reply.Decided.TheVariants as line

@@ -1,15 +1,17 @@
 //! The bench: a world, and the list of the steps that led to it.
 
-ghost use Rattle.std.specs.Prelude.{◌≡◌, ◌<◌, ◌%◌, ◌↔◌, IsTrue, IfOk, length, Some, slice_get};
+ghost use Rattle.std.specs.Prelude.{◌≡◌, ◌<◌, ◌≤◌, ◌%◌, ◌↔◌, IsTrue, IfOk, length, true, Some, slice_get, vec_capacity};
 ghost use Rattle.bench_words.specs.Memory.{word_at};
 ghost use Rattle.chip_regs.specs.Registers.{cause_of};
 ghost use Rattle.world_law.specs.World.{decided};
 ghost use Rattle.world_law.specs.Lines.{drained};
 ghost use Rattle.world_law.specs.Enabling.{Enabled};
 ghost use Rattle.world_law.specs.Seeing.{seen};
+ghost use Rattle.world_law.specs.Runs.{is_recorded};
+ghost use Rattle.world_law.specs.Answers.{WithinLimit, Answers};
 ghost use Rattle.bench_state.specs.States.{setting_of};
 ghost use Rattle.bench_state.specs.Reading.{next_fetch};
-ghost use Rattle.bench_core.specs.Histories.{opened_history};
+ghost use Rattle.bench_core.specs.Histories.{opened_history, entered, IsReplayed};
 
 use bench_state::State;
 use chip_regs::Cause;
@@ -18,12 +20,23 @@ use std::alloc::{AllocError, Global};
 use std::marker::Model;
 use world_law::{Decided, Reply, Seen};
 
+/// Enters a step into a list, where its answer is recorded. The list has room for it then.
+fn enter(entries: &mut Vec<Entry>, entry: Entry, recorded: bool)
+    requires { recorded ≡ true → length entries.old.items < vec_capacity entries.old }
+    ensures entered { entries.new.items ≡ entered recorded entries.old.items entry }
+    ensures capacity { vec_capacity entries.new ≡ vec_capacity entries.old }
+{
+    if recorded {
+        entries.push_reserved(entry);
+    }
+}
+
 /// A rig and a work, the list of the steps that were made over them, and the world in which these left it. The list is
 /// lawful, and the world is that of the list.
 #[derive(Drop)]
 pub struct Bench {
-    state: State,
-    entries: Vec<Entry>,
+    pub(crate) state: State,
+    pub(crate) entries: Vec<Entry>,
 }
 
 impl Model for Bench {
@@ -63,11 +76,70 @@ impl Bench {
         self.state.seen(caller, step)
     }
 
+    /// Whether the list has as many entries as the rig allows.
+    fn is_full(&self) -> bool
+        ensures { IsTrue result ↔ (length self.now.entries ≡ self.now.setting.step_limit) }
+    {
+        self.entries.len() == self.state.step_limit() as usize
+    }
+
+    /// Makes a step of a caller that is enabled, and enters it where its answer is recorded.
+    fn make(&mut self, caller: u32, step: Step) -> Reply
+        requires enabled { Enabled self.old.setting self.old.world caller step }
+        requires within { WithinLimit self.old.setting (length self.old.entries) self.old.world }
+        ensures setting { self.new.setting ≡ self.old.setting }
+        ensures answers { Answers self.old.setting (length self.old.entries) self.old.world caller step result self.new.world }
+        ensures entries { self.new.entries ≡ entered (is_recorded self.old.setting step result) self.old.entries
+            (record { caller = caller; step = step }) }
+    {
+        let reply = self.state.make(caller, step);
+        let recorded = self.state.is_recorded(step, reply);
+        enter(&mut self.entries, Entry { caller, step }, recorded);
+        reply
+    }
+
+    /// A step of a caller. `StepLimit` comes where the list has as many entries as the rig allows and the bench isn't
+    /// drained, and else `NotNow` where the step isn't enabled, with what the caller sees. Only a Build, the acts that
+    /// reset and ResetBus answer `OutOfMemory`. With these answers nothing changes. A step whose answer is recorded is
+    /// one more entry of the list.
+    pub fn step(&mut self, caller: u32, step: Step) -> Reply
+        ensures setting { self.new.setting ≡ self.old.setting }
+        ensures answers { Answers self.old.setting (length self.old.entries) self.old.world caller step result self.new.world }
+        ensures entries { self.new.entries ≡ entered (is_recorded self.old.setting step result) self.old.entries
+            (record { caller = caller; step = step }) }
+    {
+        if self.is_full() && !self.drained() {
+            return Reply::StepLimit;
+        }
+        if !self.is_enabled(caller, step) {
+            return Reply::NotNow(self.seen(caller, step));
+        }
+        self.make(caller, step)
+    }
+
     /// How many entries the list has.
     pub fn length(&self) -> u32
         ensures { result ≡ length self.now.entries }
     {
         self.entries.len() as u32
+    }
+
+    /// The list. It is lawful, and the world is that of the list.
+    pub fn entries(&self) -> &[Entry]
+        ensures entries { result.now ≡ self.now.entries }
+        ensures replayed { IsReplayed self.now.setting self.now.entries self.now.world }
+    {
+        self.entries.as_slice()
+    }
+
+    /// The list is lawful, the world is that of the list, and it has at most as many entries as the rig allows. This does
+    /// nothing.
+    pub fn list_is_lawful(&self)
+        ensures lawful { IsReplayed self.now.setting self.now.entries self.now.world }
+        ensures within { length self.now.entries ≤ self.now.setting.step_limit }
+        ensures limit { self.now.setting.step_limit ≤ 4194304 }
+    {
+        let _ = &self.entries;
     }
 
     /// The n-th entry of the list, counted from 0. The list has more than `n`.

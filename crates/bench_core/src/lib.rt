@@ -3,5 +3,8 @@
 #![tactic(auto)]
 
 mod bench;
+mod machine;
+mod readers;
 
 pub use bench::Bench;
+pub use machine::Setting;

@@ -1,13 +1,17 @@
 -- What the acts and the reset of the bus make, want of memory with it.
 use Rattle.std.proofs.Common.{arith, ◌≡◌, ◌≤◌, ◌<◌, ◌==◌, ℕ, Bool, true, false, List, [], ◌∷◌, ◌++◌, slice_get, Option, Some, None, refl, sym, ap, subst, ◌∙◌}
 use Rattle.std.proofs.lemmas.Bool.Decides.{nat_tests}
+use Rattle.std.proofs.lemmas.List.Elements.{All-get_or}
+use Rattle.std.proofs.lemmas.Option.{slice_get_within, get_or_from_slice_get}
 use Rattle.chip_regs.specs.declared.registers.Cause.{Cause}
 use Rattle.host_map.specs.declared.TheConstants.{FRONT_IDLE}
 use Rattle.rig_types.specs.declared.acts.Act.{Act}
 use Rattle.rig_types.specs.declared.acts.ActKind.{ActKind}
 use Rattle.rig_types.specs.declared.acts.ActKind.TheVariants as kind
+use Rattle.rig_types.specs.declared.commands.Command.{Command}
 use Rattle.rig_types.specs.declared.step.Line.{Line}
 use Rattle.rig_types.specs.declared.step.Step.TheVariants as step
+use Rattle.rig_types.specs.Works.{counts_of, IsAct, IsWork}
 use Rattle.world_law.specs.declared.reply.Reply.{Reply}
 use Rattle.world_law.specs.declared.reply.Reply.TheVariants as reply
 use Rattle.world_law.specs.declared.reply.Stop.{Stop}
@@ -16,7 +20,7 @@ use Rattle.world_law.specs.World.{BenchSetting, World, decided, front}
 use Rattle.world_law.specs.Acts.{Acted, answers, is_busy, aborts, cause_at, device_resets, bus_resets, acts_by, ActsOf}
 use Rattle.world_law.specs.Resets.{resets}
 use Rattle.world_law.specs.Answers.{ResetsOf}
-use Rattle.bench_state.specs.Making.{is_held, Makes, wants, does, MakesAct, act_wants, act_does}
+use Rattle.bench_state.specs.Making.{is_held, HasTarget, Makes, wants, does, MakesAct, act_wants, act_does}
 
 -- ---- ResetBus
 
@@ -95,3 +99,17 @@ by-kind g old new caller k o act answer e f (act_does a n) =
 pub act_makes : (g : BenchSetting) (old new : World) (caller k : ℕ) (act : Act) (answer : Reply) → slice_get g.acts k ≡ Some act
     → MakesAct old act.kind answer new → Makes g old caller (step.Act k) answer new
 act_makes g old new caller k act answer e m = by-kind g old new caller k (slice_get g.acts k) act answer refl e m
+
+in-range : (counts : List ℕ) (act : Act) → IsAct counts act → HasTarget act.kind
+in-range counts act h = by act.kind refl
+  where
+    by : (x : ActKind) → act.kind ≡ x → HasTarget x
+    by (kind.Abort l) e = tt
+    by (kind.Device target) e = omega (arith, h.device target e)
+    by kind.Bus e = tt
+
+pub has_target : (ss : List (List Command)) (acts : List Act) (k : ℕ) (act : Act) → IsWork ss acts → slice_get acts k ≡ Some act → HasTarget act.kind
+has_target ss acts k act h e =
+    in-range (counts_of ss) act
+    (subst (λ (x : Act). IsAct (counts_of ss) x) (get_or_from_slice_get acts k act act e)
+    (All-get_or (IsAct (counts_of ss)) acts k act (slice_get_within acts k act e) h.each_act))

@@ -1,5 +1,6 @@
 -- Live tickets, counted, and signals that are due.
 use Rattle.std.proofs.Common.{arith, ◌≡◌, ◌<◌, ◌≤◌, Bool, true, false, not, cond, nat_lt, ℕ, zero, suc, ◌+◌, ◌-◌, ◌==◌, ◌||◌, ◌&&◌, List, [], ◌∷◌, ◌++◌, length, slice_set, slice_index_or, take, Option, Some, None, unwrap_or, refl, sym, ap, ◌∙◌}
+use Rattle.std.proofs.lemmas.Bool.{and_from, and_left, and_right}
 use Rattle.std.proofs.lemmas.Bool.Decides.{nat_tests}
 use Rattle.std.specs.List.{sum, sum_by, count_by, list_any, list_all}
 use Rattle.std.proofs.lemmas.List.Sums.{sum_by-cons}
@@ -16,35 +17,36 @@ use Rattle.bench_state.specs.Held.{live_before}
 use Rattle.bench_state.specs.Counting.{is_over, freed_count}
 use Rattle.bench_state.proofs.TicketLaws.{done_is_live}
 
-abbrev one_if : Bool → ℕ
+abbrev pub one_if : Bool → ℕ
 one_if b = cond b 1 0
 
-counted : (k : Ticket) (ks : List Ticket) → count_by lives (k ∷ ks) ≡ one_if (lives k) + count_by lives ks
-counted k ks = sum_by-cons (λ (x : Ticket). one_if (lives x)) k ks
+-- how many live, by the first ticket
+pub live_counted : (k : Ticket) (ks : List Ticket) → count_by lives (k ∷ ks) ≡ one_if (lives k) + count_by lives ks
+live_counted k ks = sum_by-cons (λ (x : Ticket). one_if (lives x)) k ks
 
 pub live_count_stays : (ks : List Ticket) (t : ℕ) (k : Ticket) → lives k ≡ lives (slice_index_or ks t no_ticket) → count_by lives (slice_set ks t k) ≡ count_by lives ks
 live_count_stays [] t k e = refl
-live_count_stays (x ∷ xs) zero k e = omega (arith, counted k xs, counted x xs, ap (λ (b : Bool). one_if b) e)
-live_count_stays (x ∷ xs) (suc t) k e = omega (arith, counted x (slice_set xs t k), counted x xs, live_count_stays xs t k e)
+live_count_stays (x ∷ xs) zero k e = omega (arith, live_counted k xs, live_counted x xs, ap (λ (b : Bool). one_if b) e)
+live_count_stays (x ∷ xs) (suc t) k e = omega (arith, live_counted x (slice_set xs t k), live_counted x xs, live_count_stays xs t k e)
 
 pub live_count_falls : (ks : List Ticket) (t : ℕ) (k : Ticket) → lives (slice_index_or ks t no_ticket) ≡ true → lives k ≡ false → count_by lives (slice_set ks t k) + 1 ≡ count_by lives ks
 live_count_falls [] t k e f = absurd cc
-live_count_falls (x ∷ xs) zero k e f = omega (arith, counted k xs, counted x xs, ap (λ (b : Bool). one_if b) e, ap (λ (b : Bool). one_if b) f)
-live_count_falls (x ∷ xs) (suc t) k e f = omega (arith, counted x (slice_set xs t k), counted x xs, live_count_falls xs t k e f)
+live_count_falls (x ∷ xs) zero k e f = omega (arith, live_counted k xs, live_counted x xs, ap (λ (b : Bool). one_if b) e, ap (λ (b : Bool). one_if b) f)
+live_count_falls (x ∷ xs) (suc t) k e f = omega (arith, live_counted x (slice_set xs t k), live_counted x xs, live_count_falls xs t k e f)
 
 -- none of the first tickets lives, still
 pub live_before_stays : (n : ℕ) (ks : List Ticket) (t : ℕ) (k : Ticket) → lives k ≡ lives (slice_index_or ks t no_ticket)
     → live_before n (slice_set ks t k) ≡ live_before n ks
 live_before_stays zero ks t k e = refl
 live_before_stays (suc n) [] t k e = refl
-live_before_stays (suc n) (x ∷ xs) zero k e = omega (arith, counted k (take n xs), counted x (take n xs), ap (λ (b : Bool). one_if b) e)
+live_before_stays (suc n) (x ∷ xs) zero k e = omega (arith, live_counted k (take n xs), live_counted x (take n xs), ap (λ (b : Bool). one_if b) e)
 live_before_stays (suc n) (x ∷ xs) (suc t) k e =
-    omega (arith, counted x (take n (slice_set xs t k)), counted x (take n xs), live_before_stays n xs t k e)
+    omega (arith, live_counted x (take n (slice_set xs t k)), live_counted x (take n xs), live_before_stays n xs t k e)
 
 -- a ticket lives, or it is freed
 pub freed_or_live : (ks : List Ticket) → freed_count ks + count_by lives ks ≡ length ks
 freed_or_live [] = refl
-freed_or_live (k ∷ ks) = omega (arith, counted k ks, sum_by-cons (λ (x : Ticket). one_if (is_over x)) k ks, freed_or_live ks, one-of (lives k))
+freed_or_live (k ∷ ks) = omega (arith, live_counted k ks, sum_by-cons (λ (x : Ticket). one_if (is_over x)) k ks, freed_or_live ks, one-of (lives k))
   where
     one-of : (b : Bool) → one_if (not b) + one_if b ≡ 1
     one-of true = refl
@@ -63,7 +65,7 @@ by-first false c n e = e ∙ ap (λ (m : ℕ). nat_lt 0 m) (plus n)
 pub some_live : (ks : List Ticket) → list_any lives ks ≡ nat_lt 0 (count_by lives ks)
 some_live [] = refl
 some_live (k ∷ ks) =
-    by-first (lives k) (list_any lives ks) (count_by lives ks) (some_live ks) ∙ ap (λ (n : ℕ). nat_lt 0 n) (sym (counted k ks))
+    by-first (lives k) (list_any lives ks) (count_by lives ks) (some_live ks) ∙ ap (λ (n : ℕ). nat_lt 0 n) (sym (live_counted k ks))
 
 summed : (n : ℕ) (ns : List ℕ) → sum (n ∷ ns) ≡ n + sum ns
 summed n ns = sum_by-cons (λ (x : ℕ). x) n ns
@@ -109,26 +111,14 @@ zero-test n e = grind (arith, nat_tests)
 more-test : (n : ℕ) → (n ≡ 0 → ⊥) → (n == 0) ≡ false
 more-test n e = grind (arith, nat_tests)
 
-then-true : (a b : Bool) → a ≡ true → b ≡ true → a && b ≡ true
-then-true true b e f = f
-then-true false b e f = absurd cc
-
-first-false : (a b : Bool) → a ≡ false → a && b ≡ false
-first-false true b e = absurd cc
-first-false false b e = refl
-
-rest-false : (a b : Bool) → b ≡ false → a && b ≡ false
-rest-false true b e = e
-rest-false false b e = refl
-
 all-zero : (ns : List ℕ) → ((c : ℕ) → c < length ns → slice_index_or ns c 0 ≡ 0) → none_due ns ≡ true
 all-zero [] h = refl
-all-zero (n ∷ ns) h = then-true (n == 0) (none_due ns) (zero-test n (h 0 (omega arith))) (all-zero ns (λ c l. h (suc c) (omega (arith, l))))
+all-zero (n ∷ ns) h = and_from (n == 0) (none_due ns) (zero-test n (h 0 (omega arith))) (all-zero ns (λ c l. h (suc c) (omega (arith, l))))
 
 one-more : (ns : List ℕ) (c : ℕ) → c < length ns → (slice_index_or ns c 0 ≡ 0 → ⊥) → none_due ns ≡ false
 one-more [] c l n = absurd (omega (arith, l))
-one-more (x ∷ xs) zero l n = first-false (x == 0) (none_due xs) (more-test x n)
-one-more (x ∷ xs) (suc c) l n = rest-false (x == 0) (none_due xs) (one-more xs c (omega (arith, l)) n)
+one-more (x ∷ xs) zero l n = and_left (x == 0) (none_due xs) (more-test x n)
+one-more (x ∷ xs) (suc c) l n = and_right (x == 0) (none_due xs) (one-more xs c (omega (arith, l)) n)
 
 pub all_made : (d : DeskState) → ((c : ℕ) → c < length d.due → due d c ≡ 0) → none_due d.due ≡ true
 all_made d h = all-zero d.due h

@@ -1,36 +1,25 @@
 -- When every line is decided.
 use Rattle.std.proofs.Common.{arith, ◌≡◌, ◌<◌, ◌&&◌, ◌==◌, Bool, true, false, ℕ, zero, suc, List, [], ◌∷◌, length, slice_index_or, refl, sym, ◌∙◌}
+use Rattle.std.proofs.lemmas.Bool.{and_from, and_left, and_right}
 use Rattle.rig_types.specs.declared.commands.Command.{Command}
 use Rattle.world_law.specs.declared.reply.Decided.{Decided}
 use Rattle.world_law.specs.World.{BenchSetting, World, commands_of, lines_of}
 use Rattle.world_law.specs.Lines.{all_decided}
-
-both : (a b : Bool) → a ≡ true → b ≡ true → a && b ≡ true
-both true b e f = f
-both false b e f = absurd cc
-
-first-not : (a b : Bool) → a ≡ false → a && b ≡ false
-first-not true b e = absurd cc
-first-not false b e = refl
-
-then-not : (a b : Bool) → b ≡ false → a && b ≡ false
-then-not true b e = e
-then-not false b e = refl
 
 all : (css : List (List Command)) (lss : List (List Decided)) → length lss ≡ length css
     → ((k : ℕ) → k < length lss → (length (slice_index_or css k []) == length (slice_index_or lss k [])) ≡ true) → all_decided css lss ≡ true
 all [] lss e h = refl
 all (cs ∷ css) [] e h = absurd (omega (arith, e))
 all (cs ∷ css) (ls ∷ lss) e h =
-    both (length cs == length ls) (all_decided css lss) (h 0 (omega arith)) (all css lss (omega (arith, e)) (λ k l. h (suc k) (omega (arith, l))))
+    and_from (length cs == length ls) (all_decided css lss) (h 0 (omega arith)) (all css lss (omega (arith, e)) (λ k l. h (suc k) (omega (arith, l))))
 
 one : (css : List (List Command)) (lss : List (List Decided)) (k : ℕ) → length lss ≡ length css → k < length lss
     → (length (slice_index_or css k []) == length (slice_index_or lss k [])) ≡ false → all_decided css lss ≡ false
 one css [] k e l n = absurd (omega (arith, l))
 one [] (ls ∷ lss) k e l n = absurd (omega (arith, e))
-one (cs ∷ css) (ls ∷ lss) zero e l n = first-not (length cs == length ls) (all_decided css lss) n
+one (cs ∷ css) (ls ∷ lss) zero e l n = and_left (length cs == length ls) (all_decided css lss) n
 one (cs ∷ css) (ls ∷ lss) (suc k) e l n =
-    then-not (length cs == length ls) (all_decided css lss) (one css lss k (omega (arith, e)) (omega (arith, l)) n)
+    and_right (length cs == length ls) (all_decided css lss) (one css lss k (omega (arith, e)) (omega (arith, l)) n)
 
 pub decided_all : (g : BenchSetting) (w : World) (n : ℕ) → n ≡ length w.lines → n ≡ length g.submitters
     → ((s : ℕ) → s < n → (length (commands_of g s) == length (lines_of w s)) ≡ true) → all_decided g.submitters w.lines ≡ true

@@ -15,4 +15,10 @@ pub mod BlockingTickets
 pub mod DoneTaken
 pub mod Enabled
 pub mod OneOpening
+pub mod FreedTickets
+pub mod NextLines
+pub mod BuiltLines
+pub mod MoreLines
 pub mod ActsMade
+pub mod StepsMade
+pub mod UnitReading

@@ -1,5 +1,6 @@
 -- The lists of lines at the opening: none is decided, and there is room for all.
 use Rattle.std.proofs.Common.{arith, ◌≡◌, ◌<◌, ◌≤◌, ◌⊎◌, inl, inr, ◌+◌, ◌++◌, ◌∷◌, ℕ, zero, suc, List, [], length, replicate, slice_index_or, vec_capacity, refl, sym, ap, subst, ◌∙◌}
+use Rattle.std.proofs.lemmas.Bool.{cases_lt}
 use Rattle.rig_types.specs.declared.commands.Command.{Command}
 use Rattle.world_law.specs.declared.reply.Decided.{Decided}
 use Rattle.bench_state.specs.declared.state.Lines.{Lines}
@@ -60,16 +61,7 @@ none-past (cs ∷ css) zero h = absurd (omega (arith, h))
 none-past (cs ∷ css) (suc s) h = none-past css s (omega (arith, h))
 
 pub rooms_all : (css : List (List Command)) (ls : List Lines) (n : ℕ) → length css ≤ n → HasRoomsBelow css ls n → HasLineRooms css ls
-rooms_all css ls n all h s = by (within s (length css))
-  where
-    within : (a b : ℕ) → (a < b) ⊎ (b ≤ a)
-    within a zero = inr (omega arith)
-    within zero (suc b) = inl (omega arith)
-    within (suc a) (suc b) = elim (within a b) [
-      | inl x ↦ inl (omega (arith, x))
-      | inr y ↦ inr (omega (arith, y))
-    ]
-
-    by : (s < length css) ⊎ (length css ≤ s) → length (slice_index_or css s []) ≤ slice_index_or (rooms_of ls) s 0
-    by (inl a) = h s (omega (arith, a, all))
-    by (inr b) = omega (arith, none-past css s b)
+rooms_all css ls n all h s = elim (cases_lt s (length css)) [
+  | inl a ↦ h s (omega (arith, a, all))
+  | inr b ↦ omega (arith, none-past css s b)
+]

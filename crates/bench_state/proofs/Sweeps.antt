@@ -1,6 +1,6 @@
 -- Which tickets are to be swept.
 use Rattle.std.proofs.Common.{arith, ◌≡◌, ◌<◌, ◌≤◌, ◌&&◌, ◌||◌, ◌==◌, Bool, true, false, not, cond, nat_lt, ℕ, List, length, slice_index_or, Option, Some, None, refl, sym, ap, ◌∙◌}
-use Rattle.std.proofs.lemmas.Bool.Decides.{nat_tests}
+use Rattle.std.proofs.lemmas.Bool.{and_parts, and_left, or_left, false_from_ne_true, lt-ltb, le-ltb}
 use Rattle.std.specs.List.{position, position_or_len}
 use Rattle.std.proofs.lemmas.List.Sums.{position_or_len_is}
 use Rattle.chip_regs.specs.Registers.{cause_of}
@@ -17,36 +17,25 @@ use Rattle.world_law.specs.World.{World}
 use Rattle.world_law.specs.Stops.{is_clear, job_done, loses, to_sweep, sweep}
 use Rattle.bench_state.proofs.TicketLaws.{is_there}
 
-parts : (a b : Bool) → a && b ≡ true → (a ≡ true) × (b ≡ true)
-parts true b h = (refl, h)
-parts false b h = absurd cc
+may-end : (s : Stage) → is_queued s || is_sensing s ≡ true → MayEnd s
+may-end stage.Queued h = tt
+may-end stage.Sensing h = tt
+may-end stage.Built h = absurd cc
+may-end stage.Linked h = absurd cc
+may-end stage.Again h = absurd cc
+may-end stage.Check h = absurd cc
+may-end (stage.Ended o) h = absurd cc
+may-end stage.Unlinked h = absurd cc
+may-end stage.Freed h = absurd cc
 
-queued-ends : (s : Stage) (b : Bool) → is_queued s && b ≡ true → MayEnd s
-queued-ends stage.Queued b h = tt
-queued-ends stage.Sensing b h = tt
-queued-ends stage.Built b h = absurd cc
-queued-ends stage.Linked b h = absurd cc
-queued-ends stage.Again b h = absurd cc
-queued-ends stage.Check b h = absurd cc
-queued-ends (stage.Ended o) b h = absurd cc
-queued-ends stage.Unlinked b h = absurd cc
-queued-ends stage.Freed b h = absurd cc
-
-either-ends : (s : Stage) (b : Bool) → (is_queued s && b) || is_sensing s ≡ true → MayEnd s
-either-ends stage.Queued b h = tt
-either-ends stage.Sensing b h = tt
-either-ends stage.Built b h = absurd cc
-either-ends stage.Linked b h = absurd cc
-either-ends stage.Again b h = absurd cc
-either-ends stage.Check b h = absurd cc
-either-ends (stage.Ended o) b h = absurd cc
-either-ends stage.Unlinked b h = absurd cc
-either-ends stage.Freed b h = absurd cc
+either : (a b c : Bool) → (a && b) || c ≡ true → a || c ≡ true
+either true b c h = refl
+either false b c h = h
 
 lost-ends : (w : World) (k : Ticket) (o : Option Cause) → loses w k o ≡ true → MayEnd k.stage
-lost-ends w k (Some cause.Rst) h = either-ends k.stage (not (waits w.memory w.desk k)) h
+lost-ends w k (Some cause.Rst) h = may-end k.stage (either (is_queued k.stage) (not (waits w.memory w.desk k)) (is_sensing k.stage) h)
 lost-ends w k (Some (cause.Sir v)) h =
-    queued-ends k.stage (not (waits w.memory w.desk k)) (parts (passed w.memory w.desk k) _ (parts (v == job_done) _ h).1).0
+    may-end k.stage (or_left (is_queued k.stage) (is_sensing k.stage) (and_parts _ _ (and_parts (passed w.memory w.desk k) _ (and_parts (v == job_done) _ h).1).0).0)
 lost-ends w k None h = absurd cc
 lost-ends w k (Some cause.Iid) h = absurd cc
 lost-ends w k (Some cause.Bf) h = absurd cc
@@ -55,7 +44,7 @@ lost-ends w k (Some cause.Udc) h = absurd cc
 lost-ends w k (Some cause.Sto) h = absurd cc
 
 swept-ends : (w : World) (k : Ticket) → to_sweep w k ≡ true → MayEnd k.stage
-swept-ends w k h = lost-ends w k (cause_of w.regs) (parts _ _ (parts _ _ (parts (is_clear w.stop) _ h).1).1).1
+swept-ends w k h = lost-ends w k (cause_of w.regs) (and_parts _ _ (and_parts _ _ (and_parts (is_clear w.stop) _ h).1).1).1
 
 pub swept_may_end : (w : World) (t : ℕ) → to_sweep w (ticket w.desk t) ≡ true → MayEnd (ticket w.desk t).stage
 swept_may_end w t h = swept-ends w (ticket w.desk t) h
@@ -68,11 +57,7 @@ swept_lives w t h = ap not (running_lives (ticket w.desk t).stage (swept_may_end
 
 -- a ticket that was never built isn't to be swept
 pub none_to_sweep : (w : World) → to_sweep w no_ticket ≡ false
-none_to_sweep w = not-true (to_sweep w no_ticket) (λ h. swept-ends w no_ticket h)
-  where
-    not-true : (b : Bool) → (b ≡ true → ⊥) → b ≡ false
-    not-true true n = absurd (n refl)
-    not-true false n = refl
+none_to_sweep w = false_from_ne_true (to_sweep w no_ticket) (λ h. swept-ends w no_ticket h)
 
 -- ---- the least one
 
@@ -82,26 +67,16 @@ place-of p xs t l before here =
     let at : position_or_len p xs ≡ t = position_or_len_is p xs t no_ticket l before here in
     ap (λ (n : ℕ). cond (nat_lt n (length xs)) (Some n) None) at
 
-pub below : (t n : ℕ) → t < n → nat_lt t n ≡ true
-below t n m = grind (arith, nat_tests)
-
-pub not-below : (n : ℕ) → nat_lt n n ≡ false
-not-below n = grind (arith, nat_tests)
-
 pub first_to_sweep : (w : World) (t : ℕ) → t < length w.desk.tickets → ((k : ℕ) → k < t → to_sweep w (ticket w.desk k) ≡ false)
     → to_sweep w (ticket w.desk t) ≡ true → sweep w ≡ Some t
 first_to_sweep w t l before here =
     place-of (to_sweep w) w.desk.tickets t (omega (arith, l)) before (λ m. here)
-    ∙ ap (λ (b : Bool). cond b (Some t) None) (below t (length w.desk.tickets) l)
+    ∙ ap (λ (b : Bool). cond b (Some t) None) (lt-ltb t (length w.desk.tickets) l)
 
 pub none_swept : (w : World) → ((k : ℕ) → k < length w.desk.tickets → to_sweep w (ticket w.desk k) ≡ false) → sweep w ≡ None
 none_swept w before =
     place-of (to_sweep w) w.desk.tickets (length w.desk.tickets) (omega arith) before (λ m. absurd (omega (arith, m)))
-    ∙ ap (λ (b : Bool). cond b (Some (length w.desk.tickets)) None) (not-below (length w.desk.tickets))
+    ∙ ap (λ (b : Bool). cond b (Some (length w.desk.tickets)) None) (le-ltb (length w.desk.tickets) (length w.desk.tickets) (omega arith))
 
 pub not_in_clear : (w : World) → is_clear w.stop ≡ false → sweep w ≡ None
-not_in_clear w e = none_swept w (λ k l. never (is_clear w.stop) _ e)
-  where
-    never : (a b : Bool) → a ≡ false → a && b ≡ false
-    never true b h = absurd cc
-    never false b h = refl
+not_in_clear w e = none_swept w (λ k l. and_left (is_clear w.stop) _ e)

@@ -3,6 +3,7 @@ use Rattle.std.proofs.Common.{arith, ◌≡◌, ◌<◌, ◌≤◌, ◌==◌, �
 use Rattle.desk_law.specs.declared.stage.Stage.{Stage}
 use Rattle.desk_law.specs.declared.stage.Stage.TheVariants as stage
 use Rattle.desk_law.specs.declared.ticket.Ticket.{Ticket}
+use Rattle.std.proofs.lemmas.Bool.{and_parts}
 use Rattle.std.proofs.lemmas.List.Quantifiers.{position-Some}
 use Rattle.desk_law.specs.Desk.{DeskState, no_ticket, ticket, ticket_at, has_block, lives, is_freed, due}
 use Rattle.driver_desk.specs.Conditions.{MayQueue, MayEnd, IsEnded}
@@ -73,12 +74,8 @@ queueable_is_live d t h = is-live d t (queueable_lives (ticket d t).stage h)
 pub ended_is_live : (d : DeskState) (t : ℕ) → IsEnded (ticket d t).stage → lives (ticket d t) ≡ true
 ended_is_live d t h = is-live d t (ended_lives (ticket d t).stage h)
 
-first : (a b : Bool) → a && b ≡ true → a ≡ true
-first true b h = refl
-first false b h = absurd cc
-
 live-of : (block : ℕ) (k : Ticket) → has_block block k ≡ true → lives k ≡ true
-live-of block k h = first (lives k) (k.block == block) h
+live-of block k h = (and_parts (lives k) (k.block == block) h).0
 
 pub done_is_live : (d : DeskState) (block t : ℕ) → ticket_at d block ≡ Some t → lives (ticket d t) ≡ true
 done_is_live d block t found = live-of block (ticket d t) (position-Some (has_block block) d.tickets t no_ticket found).1

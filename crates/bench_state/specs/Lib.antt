@@ -4,3 +4,4 @@ pub mod Reading
 pub mod Counting
 pub mod Driving
 pub mod Making
+pub mod Building

@@ -1,7 +1,8 @@
 -- What an enabled step makes, want of memory with it (own).
-use Rattle.std.specs.Prelude.{◌≡◌, ℕ, Bool, true, false}
+use Rattle.std.specs.Prelude.{◌≡◌, ◌<◌, ℕ, Bool, true, false}
 use Rattle.rig_types.specs.declared.step.Step.{Step}
 use Rattle.rig_types.specs.declared.acts.ActKind.{ActKind}
+use Rattle.rig_types.specs.declared.acts.ActKind.TheVariants.{Device}
 use Rattle.world_law.specs.declared.reply.Reply.{Reply}
 use Rattle.world_law.specs.declared.reply.Reply.TheVariants as reply
 use Rattle.world_law.specs.declared.reply.Stop.{Stop}
@@ -26,3 +27,8 @@ pub data Makes (g : BenchSetting) (old : World) (caller : ℕ) (s : Step) (answe
 pub data MakesAct (old : World) (kind : ActKind) (answer : Reply) (new : World) : Type 0 where
   act_wants : Resets kind → answer ≡ reply.OutOfMemory → new ≡ old → MakesAct old kind answer new
   act_does : answer ≡ (acts_by old kind).answer → new ≡ (acts_by old kind).world → MakesAct old kind answer new
+
+-- a device act names one of the SCSI IDs of targets, 0 to 6
+abbrev pub HasTarget : ActKind → Type 0
+HasTarget (Device target) = target < 7
+HasTarget _ = Unit {0}

@@ -1,17 +1,20 @@
 //! The resets that an act asks for: of one target by a message, and of the bus.
 
-ghost use Rattle.std.specs.Prelude.{◌≡◌, ◌<◌, ◌+◌, ◌^◌, length, sum, true, OnOk, OnErr};
+ghost use Rattle.std.specs.Prelude.{◌≡◌, ◌<◌, ◌+◌, ◌^◌, length, slice_get, sum, true, Some, OnOk, OnErr};
 ghost use Rattle.rig_types.specs.declared.acts.ActKind.TheVariants as kind;
+ghost use Rattle.rig_types.specs.declared.step.Step.TheVariants as step;
 ghost use Rattle.world_law.specs.declared.reply.Reply.TheVariants.{Started};
 ghost use Rattle.world_law.specs.Acts.{answers, cause_at, device_resets};
+ghost use Rattle.world_law.specs.Enabling.{Enabled};
 ghost use Rattle.world_law.specs.Resets.{resets};
 ghost use Rattle.bench_state.specs.States.{with_world};
-ghost use Rattle.bench_state.specs.Making.{is_held, MakesAct};
+ghost use Rattle.bench_state.specs.Making.{is_held, HasTarget, Makes, MakesAct};
 
 use crate::state::State;
 use abort_reset::front_job;
 use chip_regs::Cause;
 use host_map::FRONT_IDLE;
+use rig_types::{Act, ActKind};
 use std::alloc::AllocError;
 use world_law::{Reply, Stop};
 
@@ -97,5 +100,42 @@ impl State {
             Ok(()) => Reply::Started,
             Err(_) => Reply::OutOfMemory,
         }
+    }
+
+    /// An act of the work, by its number from 0. The work has it.
+    #[tactic(auto, using(crate::proofs::ActsMade::has_target))]
+    fn act_at(&self, k: u32) -> Act
+        requires { k < length self.now.setting.acts }
+        ensures act { slice_get self.now.setting.acts k ≡ Some result }
+        ensures target { HasTarget result.kind }
+    {
+        self.work.acts.as_slice()[k as usize]
+    }
+
+    /// Makes an act of this kind. The act is open.
+    fn make_kind(&mut self, kind: ActKind) -> Reply
+        requires open { length self.old.world.acts < length self.old.setting.acts }
+        requires target { HasTarget kind }
+        requires few { sum self.old.world.desk.due + 1 < 2 ^ 32 }
+        ensures setting { self.new.setting ≡ self.old.setting }
+        ensures makes { MakesAct self.old.world kind result self.new.world }
+    {
+        match kind {
+            ActKind::Abort(line) => self.abort(line),
+            ActKind::Device(target) => self.reset_device(target),
+            ActKind::Bus => self.reset_by_act(),
+        }
+    }
+
+    /// Act: the next act of the work is made.
+    #[tactic(auto, using(crate::proofs::ActsMade::act_makes))]
+    pub(crate) fn make_act(&mut self, caller: u32, k: u32) -> Reply
+        requires enabled { Enabled self.old.setting self.old.world caller (step.Act k) }
+        requires few { sum self.old.world.desk.due + 1 < 2 ^ 32 }
+        ensures setting { self.new.setting ≡ self.old.setting }
+        ensures makes { Makes self.old.setting self.old.world caller (step.Act k) result self.new.world }
+    {
+        let act = self.act_at(k);
+        self.make_kind(act.kind)
     }
 }

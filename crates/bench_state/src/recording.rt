@@ -39,7 +39,7 @@ fn changes_world(answer: Reply) -> bool
 
 impl State {
     /// Whether the answer to a Build of a line is entered: a refusal of a command that waits isn't.
-    fn decides(&self, line: Line, answer: Reply) -> bool
+    pub(crate) fn decides(&self, line: Line, answer: Reply) -> bool
         ensures { result ≡ is_recorded self.now.setting (Step.Build line) answer }
     {
         let Some(commands) = self.work.submitters.as_slice().get(line.submitter as usize) else {

@@ -5,6 +5,7 @@ ghost use Rattle.desk_law.specs.Desk.{ticket, due};
 
 use crate::state::State;
 use desk_law::Stage;
+use scsi_words::Direction;
 
 impl State {
     /// How many tickets were built.
@@ -28,13 +29,25 @@ impl State {
 
     /// The submitter of a ticket; 0 where none was built.
     #[tactic(auto, using(crate::proofs::TicketLaws::none_there))]
-    pub(crate) fn submitter_of(&self, t: u32) -> u32
+    pub fn submitter_of(&self, t: u32) -> u32
         ensures { result ≡ (ticket self.now.world.desk t).line.submitter }
     {
         if t < self.bus.tickets.desk.ticket_count() {
             u32::from(self.bus.tickets.desk.line(t).submitter)
         } else {
             0
+        }
+    }
+
+    /// The direction of a ticket's data; no data where none was built.
+    #[tactic(auto, using(crate::proofs::TicketLaws::none_there))]
+    pub fn direction_of(&self, t: u32) -> Direction
+        ensures { result ≡ (ticket self.now.world.desk t).direction }
+    {
+        if t < self.bus.tickets.desk.ticket_count() {
+            self.bus.tickets.desk.direction(t)
+        } else {
+            Direction::None
         }
     }
 

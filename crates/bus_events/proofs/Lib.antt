@@ -3,3 +3,15 @@ pub mod Phases
 pub mod Bytes
 pub mod Selections
 pub mod Attention
+pub mod TicketCalls
+pub mod TicketTurns
+pub mod TicketBegins
+pub mod TicketCandidates
+pub mod TicketSelections
+pub mod Slots
+pub mod CallsMove
+pub mod KeptRooms
+pub mod CallRooms
+pub mod BusResets
+pub mod MadeRooms
+pub mod SelectionsTell

@@ -1,2 +1,7 @@
 pub mod Targets
 pub mod Laws
+pub mod Tickets
+pub mod Owed
+pub mod TicketLaws
+pub mod Rooms
+pub mod BusResets

@@ -4,4 +4,7 @@
 
 mod laws;
 
-pub use laws::{attention_makes, bytes_make, phases_make, selections_make};
+pub use laws::{
+    attention_makes, bus_resets_move, bytes_make, calls_have_room, calls_move, phases_make,
+    selections_make, selections_tell,
+};

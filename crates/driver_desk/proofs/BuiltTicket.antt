@@ -11,6 +11,7 @@ use Rattle.desk_law.specs.Desk.{DeskState, no_ticket, ticket}
 use Rattle.desk_law.specs.Refusals.{Refuses, kind_of, is_full}
 use Rattle.desk_law.specs.Building.{new_ticket, desk_built, memory_built, Builds}
 use Rattle.desk_law.proofs.Builds.{refuses_or_builds}
+use Rattle.driver_desk.specs.Conditions.{Accepts}
 
 -- the desk with another region
 abbrev pub with_space : DeskState → Space → DeskState
@@ -33,25 +34,23 @@ builds-in old new s m m' l r cs n kind full takes number desk wrote =
       wrote = wrote ∙ ap (λ (x : Ticket). memory_built new m x r) there ∙ ap (λ (d : DeskState). memory_built d m k r) desk;
     }
 
-pub builds : (old mid new : DeskState) (m m' : List ℕ) (l : Line) (r : RequestData) (cs : List Chunk) (n : ℕ) → kind_of old.units r ≡ None → is_full old r.unit ≡ false
-    → TakesAll old.space r.segments cs mid.space → mid ≡ with_space old mid.space → n ≡ length mid.tickets → new ≡ desk_built mid (new_ticket mid l r cs)
-    → m' ≡ memory_built new m (ticket new n) r → Builds old m l r n new m'
-builds old mid new m m' l r cs n kind full takes e number desk wrote =
-    builds-in old new mid.space m m' l r cs n kind full takes (subst (λ (d : DeskState). n ≡ length d.tickets) e number)
-    (subst (λ (d : DeskState). new ≡ desk_built d (new_ticket d l r cs)) e desk) wrote
+pub builds : (old mid new : DeskState) (m m' : List ℕ) (l : Line) (r : RequestData) (cs : List Chunk) (n : ℕ) → Accepts old r cs mid → n ≡ length mid.tickets
+    → new ≡ desk_built mid (new_ticket mid l r cs) → m' ≡ memory_built new m (ticket new n) r → Builds old m l r n new m'
+builds old mid new m m' l r cs n h number desk wrote =
+    builds-in old new mid.space m m' l r cs n h.sound h.not_full h.takes (subst (λ (d : DeskState). n ≡ length d.tickets) h.desk number)
+    (subst (λ (d : DeskState). new ≡ desk_built d (new_ticket d l r cs)) h.desk desk) wrote
 
 -- a request whose chunks were taken isn't refused
-pub not_refused : (old : DeskState) (l : Line) (r : RequestData) (cs : List Chunk) (t : Space) → kind_of old.units r ≡ None → is_full old r.unit ≡ false
-    → TakesAll old.space r.segments cs t → (a : Refused) → Refuses old r a → ⊥
-not_refused old l r cs t kind full takes a h =
+pub not_refused : (old mid : DeskState) (r : RequestData) (cs : List Chunk) → Accepts old r cs mid → (a : Refused) → Refuses old r a → ⊥
+not_refused old mid r cs h a reason =
+    let l : Line = record { submitter = 0; number = 0 } in
     let k = new_ticket old l r cs in
-    let new = with_space (desk_built old k) t in
-    refuses_or_builds old [] l r a (length old.tickets) new (memory_built old [] k r) h
-    (record { sound = kind; not_full = full; chunks = cs; takes = takes; numbered = refl; desk = refl; wrote = refl })
+    refuses_or_builds old [] l r a (length old.tickets) (with_space (desk_built old k) mid.space) (memory_built old [] k r) reason
+    (record { sound = h.sound; not_full = h.not_full; chunks = cs; takes = h.takes; numbered = refl; desk = refl; wrote = refl })
 
 -- chunks that are given back leave the desk as before
-pub given_back : (old mid last new : DeskState) (lens : List ℕ) (cs : List Chunk) → IsRegion old.space → TakesAll old.space lens cs mid.space → mid ≡ with_space old mid.space
-    → last ≡ mid → ((s : Space) (ls : List ℕ) → IsRegion s → TakesAll s ls cs last.space → new ≡ with_space last s) → new ≡ old
-given_back old mid last new lens cs region takes e same back =
-    back old.space lens region (subst (λ (d : DeskState). TakesAll old.space lens cs d.space) (sym same) takes)
-    ∙ ap (λ (d : DeskState). with_space d old.space) (same ∙ e)
+pub given_back : (old mid last new : DeskState) (r : RequestData) (cs : List Chunk) → Accepts old r cs mid → last ≡ mid
+    → ((s : Space) (ls : List ℕ) → IsRegion s → TakesAll s ls cs last.space → new ≡ with_space last s) → new ≡ old
+given_back old mid last new r cs h same back =
+    back old.space r.segments h.region (subst (λ (d : DeskState). TakesAll old.space r.segments cs d.space) (sym same) h.takes)
+    ∙ ap (λ (d : DeskState). with_space d old.space) (same ∙ h.desk)

@@ -66,10 +66,10 @@ keyed-freed size key o xs t k h there live dead =
 
 -- ---- a ticket is built
 
-at-left : (xs : List Ticket) (k : Ticket) (i : ℕ) → i < length xs → at (xs ++ k ∷ []) i ≡ at xs i
+pub at-left : (xs : List Ticket) (k : Ticket) (i : ℕ) → i < length xs → at (xs ++ k ∷ []) i ≡ at xs i
 at-left xs k i low = get_or_append_left xs (k ∷ []) no_ticket i low
 
-at-last : (xs : List Ticket) (k : Ticket) (i : ℕ) → length xs ≡ i → at (xs ++ k ∷ []) i ≡ k
+pub at-last : (xs : List Ticket) (k : Ticket) (i : ℕ) → length xs ≡ i → at (xs ++ k ∷ []) i ≡ k
 at-last xs k i e = get_or_push xs k no_ticket i e
 
 pub by_place : (xs : List Ticket) (k : Ticket) (P : ℕ → Ticket → Type 0) → ((i : ℕ) → i < length xs → P i (at xs i)) → P (length xs) k

@@ -12,4 +12,6 @@ pub mod Opening
 pub mod WholeDescriptors
 pub mod Segments
 pub mod Slots
+pub mod LastTickets
+pub mod StageSets
 pub mod Stages

@@ -1,5 +1,5 @@
 -- When calls of the desk may be made, and what TakeDone answers (own).
-use Rattle.std.specs.Prelude.{◌≡◌, ◌==◌, if◌then◌else◌, ◌<◌, ◌≤◌, ◌+◌, ◌%◌, ◌++◌, ℕ, false, All, List, length, map, sum, zip, Option, IsSome, None, slice_index_or, unwrap_or}
+use Rattle.std.specs.Prelude.{◌≡◌, ◌==◌, if◌then◌else◌, ◌≤◌, ◌++◌, ℕ, false, All, List, length, map, sum, zip, None, unwrap_or}
 use Rattle.desk_law.specs.declared.stage.Stage.{Stage}
 use Rattle.desk_law.specs.declared.stage.Stage.TheVariants.{Built, Linked, Queued, Again, Sensing, Ended}
 use Rattle.desk_law.specs.declared.stage.Taken.{Taken}
@@ -9,7 +9,7 @@ use Rattle.desk_law.specs.Desk.{DeskState}
 use Rattle.desk_law.specs.Rings.{done_ticket}
 use Rattle.rig_types.specs.declared.step.Line.{Line}
 use Rattle.dma_buddy.specs.declared.buddies.Chunk.{Chunk}
-use Rattle.dma_buddy.specs.Regions.{AreOut}
+use Rattle.dma_buddy.specs.Regions.{IsRegion, AreOut, TakesAll}
 use Rattle.desk_law.specs.declared.ticket.Piece.{Piece}
 use Rattle.driver_desk.specs.Kept.{total}
 use Rattle.driver_desk.specs.Held.{core, held, piece_chunks}
@@ -17,7 +17,7 @@ use Rattle.desk_law.specs.declared.ticket.Ticket.{Ticket}
 use Rattle.desk_law.specs.Building.{piece}
 use Rattle.unit_law.specs.Request.{RequestData}
 use Rattle.desk_law.specs.declared.refused.Refused.{Refused as Reason}
-use Rattle.desk_law.specs.Refusals.{Refuses}
+use Rattle.desk_law.specs.Refusals.{kind_of, is_full, Refuses}
 use Rattle.driver_desk.specs.declared.fault.BuildFault.{BuildFault}
 use Rattle.driver_desk.specs.declared.fault.BuildFault.TheVariants.{Refused, OutOfMemory}
 
@@ -64,6 +64,15 @@ pub record AreFor (d : DeskState) (chunks : List Chunk) (lens : List ℕ) : Type
   pub total : total (pieces_of chunks lens) ≡ sum lens
   pub fits : All (λ (p : Piece). p.len ≤ p.chunk.size) (pieces_of chunks lens)
   pub out : AreOut d.space (held (map core d.tickets) ++ chunks)
+
+-- chunks are taken for a request that isn't refused
+pub record Accepts (old : DeskState) (r : RequestData) (chunks : List Chunk) (new : DeskState) : Type 0 where
+  pub sound : kind_of old.units r ≡ None
+  pub not_full : is_full old r.unit ≡ false
+  pub region : IsRegion old.space
+  pub takes : TakesAll old.space r.segments chunks new.space
+  pub are_for : AreFor new chunks r.segments
+  pub desk : new ≡ record old { space = new.space }
 
 -- the distance of two tags: in version 1 they are multiples of 4
 abbrev pub step_of : ℕ → ℕ

@@ -18,7 +18,8 @@ ghost use Rattle.driver_desk.specs.Held.{core, held};
 ghost use Rattle.desk_law.specs.Reporting.{report_at};
 ghost use Rattle.desk_law.specs.Taking.{is_again, is_check, takes, take_memory, taken};
 ghost use Rattle.desk_law.specs.declared.stage.Stage.TheVariants.{Built, Check, Unlinked};
-ghost use Rattle.driver_desk.specs.Conditions.{MayQueue, MayEnd, IsEnded, FaultOf, AreFor, step_of, next_done, answer_of};
+ghost use Rattle.driver_desk.specs.Conditions.{MayQueue, MayEnd, IsEnded, FaultOf, AreFor, Accepts, step_of, next_done, answer_of};
+ghost use Rattle.desk_law.specs.declared.refused.Refused.{Refused};
 
 use crate::blocks::{begin_anew, has_status, is_marked, settle_ticket};
 use crate::building::{NewTicket, new_ticket, one_less, one_more, write_ticket};
@@ -26,9 +27,10 @@ use crate::fault::BuildFault;
 use crate::giving::{give_all, put_back};
 use crate::refusals::kind_of;
 use crate::reporting::{Room, report_of};
+use crate::stage_sets::StageSets;
 use bench_words::Words;
 use chip_regs::Regs;
-use desk_law::{Refused, Stage, Taken, Ticket};
+use desk_law::{Piece, Refused, Stage, Taken, Ticket};
 use dma_buddy::{Chunk, Chunks, Region};
 use host_map::{
     BLOCK_BYTES, BLOCKS, BUFFERS, CHUNK_COUNT, DONE_RING, FRONT, RINGP, START_RING, block_at,
@@ -37,6 +39,7 @@ use host_map::{
 use job_rings::{clear_done, put_start};
 use place_table::PlaceTable;
 use rig_types::{Line, Outcome, Report, Request, Rig, Unit, Work};
+use scsi_words::Direction;
 use sense_job::turn;
 use std::alloc::{AllocError, Global};
 use std::marker::Model;
@@ -53,7 +56,8 @@ const QUEUE_FULL: u8 = 0x28;
 /// it as the desk's state of `desk_law`.
 ///
 /// Beside the tickets it keeps for each block, and for each tag of each unit, the live ticket that has it, and by block
-/// the memory of its report.
+/// the memory of its report; and the numbers of the tickets in each stage that the reaper
+/// looks for, and the last ticket of each submitter.
 #[derive(Drop)]
 pub struct Desk {
     version: u8,
@@ -70,6 +74,8 @@ pub struct Desk {
     take: u32,
     region: Region,
     due: Vec<u32>,
+    pub(crate) stages: StageSets,
+    pub(crate) last_built: Vec<Option<u32>>,
 }
 
 impl Model for Desk {
@@ -77,6 +83,8 @@ impl Model for Desk {
     ghost use Rattle.desk_law.specs.Desk.{DeskState};
     ghost use Rattle.driver_desk.specs.Kept.{IsDesk, IsIndex};
     ghost use Rattle.driver_desk.specs.Held.{IsKept};
+    ghost use Rattle.driver_desk.specs.StageSets.{AreOf};
+    ghost use Rattle.driver_desk.specs.LastTickets.{AreLast};
 
     ghost Value = { DeskState };
 
@@ -93,9 +101,11 @@ impl Model for Desk {
       due = d.due.items;
     } };
 
-    ghost invariant = { λ d. IsDesk (length d.units.items) d.submitters d.retries d.put d.take (length d.due.items) d.tickets.items
+    ghost invariant = { λ d. (IsDesk (length d.units.items) d.submitters d.retries d.put d.take (length d.due.items) d.tickets.items
         × IsIndex d.by_block d.by_tag d.tickets.items
-        × IsKept d.version d.units.items d.retries d.by_block d.by_tag d.rooms.items d.live_counts.items d.region d.tickets.items };
+        × IsKept d.version d.units.items d.retries d.by_block d.by_tag d.rooms.items d.live_counts.items d.region d.tickets.items)
+        × AreOf d.stages d.tickets.items
+        × AreLast d.submitters d.last_built.items d.tickets.items };
 }
 
 /// No live ticket of so many units.
@@ -104,6 +114,17 @@ fn no_counts(alloc: Global, units: usize) -> Result<Vec<u16>, AllocError>
 {
     let counts = vec![in alloc; 0; units]?;
     Ok(counts)
+}
+
+/// No ticket of so many submitters.
+fn no_last_tickets(alloc: Global, submitters: usize) -> Result<Vec<Option<u32>>, AllocError>
+    ensures { IfOk result (λ v. v.items ≡ replicate submitters None) }
+{
+    let mut lasts = Vec::with_capacity(alloc, submitters)?;
+    for _ in 0..submitters {
+        lasts.push(None)?;
+    }
+    Ok(lasts)
 }
 
 /// So many groups of 256 places without a ticket.
@@ -156,6 +177,8 @@ impl Desk {
             take: DONE_RING,
             region: Region::new(alloc, BUFFERS, CHUNK_COUNT)?,
             due: vec![in alloc; 0; submitters + 3]?,
+            stages: StageSets::new(alloc)?,
+            last_built: no_last_tickets(alloc, submitters)?,
         })
     }
 
@@ -258,6 +281,22 @@ impl Desk {
         piece.chunk
     }
 
+    /// Which way the data of a ticket go. The ticket was built.
+    pub fn direction(&self, t: u32) -> Direction
+        requires { t < length self.now.tickets }
+        ensures { result ≡ (ticket self.now t).direction }
+    {
+        self.tickets[t as usize].direction
+    }
+
+    /// The segments of a ticket's buffer, in their order. The ticket was built.
+    pub fn pieces(&self, t: u32) -> &[Piece]
+        requires { t < length self.now.tickets }
+        ensures { result.now ≡ (ticket self.now t).pieces }
+    {
+        self.tickets[t as usize].pieces.as_slice()
+    }
+
     /// How many signals of a caller are due.
     pub fn due(&self, caller: u32) -> u32
         requires { caller < length self.now.due }
@@ -333,7 +372,7 @@ impl Desk {
     }
 
     /// Why a request is refused, but for want of chunks.
-    fn refusal(&self, r: &Request) -> Option<Refused>
+    fn refusal_before_chunks(&self, r: &Request) -> Option<Refused>
         ensures { MatchOption result
             ((kind_of self.now.units (plain r.now) ≡ None) × (is_full self.now r.now.unit ≡ false))
             (λ a. Refuses self.now (plain r.now) a) }
@@ -358,6 +397,21 @@ impl Desk {
         ensures region { IsRegion self.old.space }
     {
         self.region.take_all(r.segments.as_slice())
+    }
+
+    /// Takes the chunks of a request that isn't refused. Err holds why it is refused.
+    fn accept(&mut self, r: &Request) -> Result<Chunks, Refused>
+        ensures { MatchResult result
+            (λ cs. Accepts self.old (plain r.now) cs self.new)
+            (λ a. (self.new ≡ self.old) × Refuses self.old (plain r.now) a) }
+    {
+        if let Some(reason) = self.refusal_before_chunks(r) {
+            return Err(reason);
+        }
+        match self.take_chunks(r) {
+            Ok(chunks) => Ok(chunks),
+            Err(len) => Err(Refused::RegionFull { len }),
+        }
     }
 
     /// Gives chunks back that were taken last and belong to no ticket.
@@ -440,10 +494,12 @@ impl Desk {
         let unit = ticket.unit;
         let place = ((ticket.block - BLOCKS) / BLOCK_BYTES) as usize;
         let key = 256 * unit as usize + ticket.tag as usize;
+        self.stages.reach(number)?;
         self.tickets.push(ticket)?;
         self.by_block.hold(place, number);
         self.by_tag.hold(key, number);
         self.rooms[place] = Some(room);
+        self.last_built[line.submitter as usize] = Some(number);
         one_more(&mut self.live_counts, unit);
         Ok(number)
     }
@@ -460,6 +516,22 @@ impl Desk {
     {
         let k = &self.tickets[t as usize];
         write_ticket(words, &self.units[k.unit as usize], k, r);
+    }
+
+    /// The reason for which `build` would refuse a request now, None where nothing refuses it. The desk is as before.
+    pub fn refusal(&mut self, request: &Request) -> Option<Refused>
+        ensures reason { MatchOption result
+            ((a : Refused) → Refuses self.old (plain request.now) a → ⊥)
+            (λ a. Refuses self.old (plain request.now) a) }
+        ensures desk { self.new ≡ self.old }
+    {
+        match self.accept(request) {
+            Ok(chunks) => {
+                self.give_back(&chunks);
+                None
+            }
+            Err(reason) => Some(reason),
+        }
     }
 
     /// Builds the ticket of a request: it has the least free block and the least free tag of its unit, and a chunk for
@@ -479,12 +551,9 @@ impl Desk {
             (λ f. (self.new ≡ self.old) × (words.new ≡ words.old) × FaultOf self.old (plain request.now) f) }
         ensures size { length words.new ≡ length words.old }
     {
-        if let Some(reason) = self.refusal(request) {
-            return Err(BuildFault::Refused(reason));
-        }
-        let chunks = match self.take_chunks(request) {
+        let chunks = match self.accept(request) {
             Ok(chunks) => chunks,
-            Err(len) => return Err(BuildFault::Refused(Refused::RegionFull { len })),
+            Err(reason) => return Err(BuildFault::Refused(reason)),
         };
         let Ok(number) = self.enter(line, request, &chunks) else {
             self.give_back(&chunks);
@@ -561,6 +630,7 @@ impl Desk {
         let block = k.block;
         k.stage = Stage::Queued;
         k.tries += 1;
+        self.stages.mark(t, Stage::Queued);
         self.put = put_start(words, self.put, block);
         self.owe(caller);
     }
@@ -580,6 +650,7 @@ impl Desk {
         let k = &mut self.tickets[t as usize];
         let block = k.block;
         k.stage = Stage::Sensing;
+        self.stages.mark(t, Stage::Sensing);
         turn(words, block);
         words.set(FRONT, block);
         self.owe(u32::from(self.submitters) + 1);
@@ -627,7 +698,10 @@ impl Desk {
         let again = self.is_again(words, k);
         let check = self.is_check(words, k);
         let k = &mut self.tickets[t as usize];
-        settle_ticket(k, words, t, again, check)
+        let answer = settle_ticket(k, words, t, again, check);
+        let stage = k.stage;
+        self.stages.mark(t, stage);
+        answer
     }
 
     /// Takes the ticket whose block stands in the done slot, makes the slot idle and clears INTF.
@@ -663,6 +737,7 @@ impl Desk {
         let k = &mut self.tickets[t as usize];
         unlink(words, k.unit, k.tag);
         k.stage = Stage::Unlinked;
+        self.stages.mark(t, Stage::Unlinked);
     }
 
     /// Frees a ticket that was unlinked, and makes its report. Its chunks go back in their order, and its block and its
@@ -686,6 +761,7 @@ impl Desk {
         self.by_tag.release(256 * k.unit as usize + k.tag as usize);
         one_less(&mut self.live_counts, k.unit);
         k.stage = Stage::Freed;
+        self.stages.mark(t, Stage::Freed);
         report
     }
 
@@ -698,5 +774,6 @@ impl Desk {
         let k = &mut self.tickets[t as usize];
         k.stage = Stage::Ended(outcome);
         k.outcome = Some(outcome);
+        self.stages.mark(t, Stage::Ended(outcome));
     }
 }

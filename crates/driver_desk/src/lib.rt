@@ -7,8 +7,10 @@ mod building;
 mod desk;
 mod fault;
 mod giving;
+mod least_tickets;
 mod refusals;
 mod reporting;
+mod stage_sets;
 
 pub use desk::Desk;
 pub use fault::BuildFault;

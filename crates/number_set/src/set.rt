@@ -48,6 +48,13 @@ impl NumberSet {
         })
     }
 
+    /// How many numbers there are below the count.
+    pub fn len(&self) -> usize
+        ensures { result ≡ length self.now }
+    {
+        self.count
+    }
+
     /// One number more below the count, not in the set. Want of memory leaves the set as it is.
     pub fn grow(&mut self) -> Result<(), AllocError>
         requires { length self.old < 2 ^ 32 }

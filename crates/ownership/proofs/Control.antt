@@ -26,22 +26,22 @@ use Rattle.ownership.proofs.Steps.{stands_at, can}
 
 -- ---- the test
 
-abbrev fixed : ℕ → ℕ → Bool
+abbrev pub fixed : ℕ → ℕ → Bool
 fixed n a = nat_le 0x1000 a && nat_le (a + n) 0x1034
 
-abbrev from_dsa : ℕ → ℤ → Bool
+abbrev pub from_dsa : ℕ → ℤ → Bool
 from_dsa n (pos o) = nat_le (o + n) 0xE0
 from_dsa n (negsuc o) = false
 
-abbrev at_place : ℕ → Address → Bool
+abbrev pub at_place : ℕ → Address → Bool
 at_place n (At a) = fixed n a
 at_place n (FromDsa o) = from_dsa n o
 
-abbrev by_entry : ℤ → Bool
+abbrev pub by_entry : ℤ → Bool
 by_entry (pos o) = nat_eq o 0x20 || nat_eq o 0x28 || nat_eq o 0x30
 by_entry (negsuc o) = false
 
-abbrev controls : Op → Bool
+abbrev pub controls : Op → Bool
 controls (op.Move n a p) = fixed n a
 controls (op.MoveFrom o p) = by_entry o
 controls (op.Select o alternate) = from_dsa 4 o
@@ -65,14 +65,14 @@ at_188 : passes 0x31 (op.Jump Always 0x460) ≡ true
 unfolding data_move
 at_188 = refl
 
-controls_at : (k version : ℕ) → k < 151 → data_move (8 * k) ≡ None → controls (instruction k version) ≡ true
+pub controls_at : (k version : ℕ) → k < 151 → data_move (8 * k) ≡ None → controls (instruction k version) ≡ true
 controls_at k version h none =
     let t : unless_data (data_move (8 * k)) (instruction k version) ≡ true = both_versions passes 151 all_pass at_188 k version h in
     rw none at t
 
 -- ---- the ranges
 
-in_either : (a b : List Range) (x : ℕ) (C : Type 0) → IsIn (a ++ b) x → (IsIn a x → C) → (IsIn b x → C) → C
+pub in_either : (a b : List Range) (x : ℕ) (C : Type 0) → IsIn (a ++ b) x → (IsIn a x → C) → (IsIn b x → C) → C
 in_either [] b x C h f g = g h
 in_either (r ∷ rs) b x C (inl h) f g = f (inl h)
 in_either (r ∷ rs) b x C (inr h) f g = in_either rs b x C h (λ i. f (inr i)) g
@@ -86,7 +86,7 @@ within a n from len x l u (inl i) = inl (omega (arith, i.0), omega (arith, i.1))
 within a n from len x l u (inr i) = absurd i
 
 -- the bytes that came, and those that went, are the entry's
-came_in : (left x : ℕ) (b : Bool) (e : Block) → IsIn (came b left e) x → IsIn (range e.address e.count) x
+pub came_in : (left x : ℕ) (b : Bool) (e : Block) → IsIn (came b left e) x → IsIn (range e.address e.count) x
 came_in left x true e h = shorter e.address e.count (e.count - left) x (omega arith) h
 came_in left x false e h = absurd h
 
@@ -97,19 +97,19 @@ untaken_by false left n e h = let l : 0 < left = grind (arith, nat_tests) in ome
 untaken-most : (left n : ℕ) → left ≤ n → n - left + untaken left ≤ n
 untaken-most left n h = untaken_by (nat_eq left 0) left n refl h
 
-went_in : (left x : ℕ) (b : Bool) (e : Block) → left ≤ e.count → IsIn (went b left e) x → IsIn (range e.address e.count) x
+pub went_in : (left x : ℕ) (b : Bool) (e : Block) → left ≤ e.count → IsIn (went b left e) x → IsIn (range e.address e.count) x
 went_in left x true e l h = absurd h
 went_in left x false e l h = shorter e.address e.count (e.count - left + untaken left) x (untaken-most left e.count l) h
 
-of_came : (left x : ℕ) (b : Bool) (e : Option Block) → IsIn (of_block (came b left) e) x → IsIn (of_block (λ (c : Block). range c.address c.count) e) x
+pub of_came : (left x : ℕ) (b : Bool) (e : Option Block) → IsIn (of_block (came b left) e) x → IsIn (of_block (λ (c : Block). range c.address c.count) e) x
 of_came left x b None h = h
 of_came left x b (Some e) h = came_in left x b e h
 
-of_went : (left x : ℕ) (b : Bool) (e : Option Block) → ((c : Block) → e ≡ Some c → left ≤ c.count) → IsIn (of_block (went b left) e) x → IsIn (of_block (λ (c : Block). range c.address c.count) e) x
+pub of_went : (left x : ℕ) (b : Bool) (e : Option Block) → ((c : Block) → e ≡ Some c → left ≤ c.count) → IsIn (of_block (went b left) e) x → IsIn (of_block (λ (c : Block). range c.address c.count) e) x
 of_went left x b None l h = h
 of_went left x b (Some e) l h = went_in left x b e (l e refl) h
 
-true_le : (a b : ℕ) → nat_le a b ≡ true → a ≤ b
+pub true_le : (a b : ℕ) → nat_le a b ≡ true → a ≤ b
 true_le a b h = grind (arith, nat_tests)
 
 true_eq : (a b : ℕ) → nat_eq a b ≡ true → a ≡ b

@@ -5,9 +5,11 @@
 mod acts;
 mod images;
 mod lines;
+mod text;
 mod totals;
 
 pub use acts::push_acts;
 pub use images::push_block;
 pub use lines::push_lines;
+pub use text::report_text;
 pub use totals::push_totals;

@@ -1,5 +1,5 @@
 -- The ranges of a work's commands and acts, and that its acts name what is there. Source: own, as the work file is.
-use Rattle.std.specs.Prelude.{◌≡◌, ℕ, ◌≤◌, ◌<◌, List, length, map, sum, slice_index}
+use Rattle.std.specs.Prelude.{◌≡◌, ℕ, ◌≤◌, ◌<◌, ◌++◌, ◌∷◌, [], List, length, map, sum, slice_index, slice_index_or, slice_set}
 use Rattle.std.specs.List.{All}
 use Rattle.rig_types.specs.declared.step.Line.{Line}
 use Rattle.rig_types.specs.declared.commands.Command.{Command}
@@ -30,3 +30,7 @@ pub record IsWork (ss : List (List Command)) (acts : List Act) : Type 0 where
   pub commands : All (All IsCommand) ss
   pub few_acts : length acts ≤ 64
   pub each_act : All (IsAct (counts_of ss)) acts
+
+-- a submitter has one command more
+abbrev pub extended : List (List Command) → (submitter : ℕ) → Command → List (List Command)
+extended ss s c = slice_set ss s (slice_index_or ss s [] ++ c ∷ [])

@@ -1,9 +1,11 @@
 //! What the submitters ask for.
 
-ghost use Rattle.std.specs.Prelude.{◌≡◌, List};
+ghost use Rattle.std.specs.Prelude.{◌≡◌, ◌<◌, ◌++◌, ◌∷◌, [], List, length, OnOk, OnErr};
 ghost use Rattle.rig_types.specs.declared.commands.Command.{Command};
+ghost use Rattle.rig_types.specs.Works.{extended};
 
 use crate::request::Request;
+use std::alloc::AllocError;
 use std::marker::Model;
 
 /// What a submitter does where its unit or the buffer region is full.
@@ -59,6 +61,15 @@ impl Commands {
     {
         self.held
     }
+
+    /// Adds a last command. Its one error is want of memory, and then nothing has changed.
+    pub fn push(&mut self, command: Command) -> Result<(), AllocError>
+        ensures ok { OnOk result (self.new ≡ self.old ++ command ∷ []) }
+        ensures err { OnErr result (self.new ≡ self.old) }
+    {
+        self.held.push(command)?;
+        Ok(())
+    }
 }
 
 /// The submitters, each with its commands.
@@ -93,5 +104,14 @@ impl Submitters {
         ensures { result.items ≡ self }
     {
         self.held
+    }
+
+    /// Adds a last command of a submitter, which is there. Its one error is want of memory, and then nothing has changed.
+    pub fn push(&mut self, submitter: u16, command: Command) -> Result<(), AllocError>
+        requires { submitter < length self.old }
+        ensures ok { OnOk result (self.new ≡ extended self.old submitter command) }
+        ensures err { OnErr result (self.new ≡ self.old) }
+    {
+        self.held[submitter as usize].push(command)
     }
 }

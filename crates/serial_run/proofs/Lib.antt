@@ -1,1 +1,8 @@
 pub mod Words
+pub mod Firsts
+pub mod Turns
+pub mod Rounds
+pub mod Products
+pub mod Least
+pub mod Held
+pub mod Submitters

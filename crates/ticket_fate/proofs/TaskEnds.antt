@@ -190,7 +190,7 @@ module _ (g : Plan) (count : ℕ) (plan : IsPlan g count) (i : ℕ) (tickets : �
       }
 
 -- a fresh task of a ticket without End is no sense task
-asks-none : (c : Cdb) → asks_sense c false ≡ false
+pub asks-none : (c : Cdb) → asks_sense c false ≡ false
 asks-none TestUnitReady = refl
 asks-none (RequestSense len) = none (nat_eq len 18)
   where

@@ -14,7 +14,8 @@ use Rattle.std.specs.Prelude.{not}
 use Rattle.target_law.specs.Bytes.{hears}
 use Rattle.ticket_fate.specs.Tickets.{Plan, Ticket}
 use Rattle.ticket_fate.specs.Linked.{HasRogue}
-use Rattle.ticket_fate.specs.Moves.{IsIdle, MayLink, Moves, relinks}
+use Rattle.ticket_fate.specs.Moves.{IsIdle, MayLink, relinks}
+use Rattle.ticket_link.specs.CallMoves.{CallMoves}
 use Rattle.ticket_link.specs.Laws.{Relinks, IdleCallsRelink}
 
 unchanged : (t : Target) → t ≡ linked t t.link
@@ -119,8 +120,8 @@ module _ (g : Plan) (i : ℕ) (t : Target) where
   unfolding target_acked
   acked idle may = by-acked t.link refl idle may
 
-a-move : (g : Plan) (count : ℕ) (ks : ℕ → Ticket) (ts : ℕ → Target) (i : ℕ) (s : Target) → IsIdle (ts i).link → Relinks g i (ts i) s → Moves g count ks ts ks (with_at ts i s)
-a-move g count ks ts i s idle r = subst (λ z. Moves g count ks ts ks (with_at ts i z)) (sym r.3) (relinks i r.0 idle r.1 r.2)
+a-move : (g : Plan) (count : ℕ) (ks : ℕ → Ticket) (ts : ℕ → Target) (i : ℕ) (s : Target) → IsIdle (ts i).link → Relinks g i (ts i) s → CallMoves g count ks ts ks (with_at ts i s)
+a-move g count ks ts i s idle r = subst (λ z. CallMoves g count ks ts ks (with_at ts i z)) (sym r.3) (relinks i r.0 idle r.1 r.2, tt)
 
 pub idle-calls-relink : IdleCallsRelink
 idle-calls-relink = record {

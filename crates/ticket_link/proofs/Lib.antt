@@ -4,3 +4,4 @@ pub mod Others
 pub mod IdleCalls
 pub mod WorkCalls
 pub mod Pointers
+pub mod Sessions

@@ -19,11 +19,11 @@ use Rattle.ticket_fate.specs.Laws.{Opens}
 use Rattle.ticket_fate.proofs.TaskLists.{away-at}
 use Rattle.ticket_fate.proofs.Recorded.{at-work}
 use Rattle.ticket_fate.proofs.Reached.{kept-by, opens-kept}
-use Rattle.ticket_link.specs.Tags.{TagsApart, TakesFreeTag, TakeFreeTags}
+use Rattle.ticket_link.specs.Tags.{TagsApart, IsBuild, TakesFreeTag, TakeFreeTags}
 use Rattle.ticket_link.specs.Laws.{TagsNameOne}
 
 -- it keeps its tag, and doesn't come to live
-abbrev TagKept : Ticket → Ticket → Type 0
+abbrev pub TagKept : Ticket → Ticket → Type 0
 TagKept k j = (j.tag ≡ k.tag) × (is_live j.life ≡ true → is_live k.life ≡ true)
 
 alone-tag : (g : Plan) (x : ℕ) (v : View) (k j : Ticket) → TicketMove g x v k j → TagKept k j ⊎ (k.life ≡ Unbuilt)
@@ -114,35 +114,47 @@ module _ (g : Plan) (count : ℕ) (plan : IsPlan g count) (ks : ℕ → Ticket) 
   called : (i : ℕ) (c : Connection) (k : Ticket) → (ts i).link ≡ TaskConnected c → k.tag ≡ (ks c.task.ticket).tag → (x : ℕ) → TagKept (ks x) (with_at ks c.task.ticket k x)
   called i c k w e = one g ks c.task.ticket k (e, λ l. at-work g count plan ks ts h 0 i c w)
 
-  pub apart-kept : (ns : ℕ → Ticket) (us : ℕ → Target) (m : Moves g count ks ts ns us) → TakesFreeTag m → TagsApart g ks → TagsApart g ns
-  apart-kept ns us (alone x k u there m) free a = by (alone-tag g x (view_for g x u.log) (ks x) k m)
+  -- a move builds a ticket, or each ticket keeps its tag and none comes to live
+  pub tags-kept : (ns : ℕ → Ticket) (us : ℕ → Target) (m : Moves g count ks ts ns us) → ((x : ℕ) → TagKept (ks x) (ns x)) ⊎ IsBuild m
+  tags-kept ns us (alone x k u there m) = by (alone-tag g x (view_for g x u.log) (ks x) k m)
     where
-      by : TagKept (ks x) k ⊎ ((ks x).life ≡ Unbuilt) → TagsApart g (with_at ks x k)
-      by (inl f) = all-kept g ks (with_at ks x k) (one g ks x k f) a
-      by (inr e) = built g ks x k (free e) a
-  apart-kept ns us (points y lastp savep e) free a = all-kept g ks ns (one g ks y _ (refl, λ l. l)) a
-  apart-kept ns us (marks y can) free a = all-kept g ks ns (one g ks y _ (refl, λ l. l)) a
-  apart-kept ns us (relinks i l e f may) free a = a
-  apart-kept ns us (acts i c u m w there e can) free a = all-kept g ks ns (called i c _ w refl) a
-  apart-kept ns us (sends i c at b w plain e byte) free a = all-kept g ks ns (called i c _ w (sent-tag c.shows at b (ks c.task.ticket) _)) a
-  apart-kept ns us (receives i c n at b w plain e f byte) free a = all-kept g ks ns (called i c _ w refl) a
-  apart-kept ns us (hears i c n s w plain e d f) free a = all-kept g ks ns (called i c _ w refl) a
-  apart-kept ns us (listens i c bytes w plain) free a = all-kept g ks ns (called i c _ w refl) a
-  apart-kept ns us (leaves_bus i c u w plain there e) free a = all-kept g ks ns (called i c _ w refl) a
-  apart-kept ns us (completes i c u v s k w plain there e z) free a = all-kept g ks ns (called i c k w (completed-tag v g c.task.ticket (ks c.task.ticket) (session u c) k z)) a
-  apart-kept ns us (drops_task i c u w plain there e) free a = all-kept g ks ns (called i c _ w refl) a
-  apart-kept ns us (reselects n m u k less idle there e) free a =
+      by : TagKept (ks x) k ⊎ ((ks x).life ≡ Unbuilt) → ((y : ℕ) → TagKept (ks y) (with_at ks x k y)) ⊎ ((ks x).life ≡ Unbuilt)
+      by (inl f) = inl (one g ks x k f)
+      by (inr e) = inr e
+  tags-kept ns us (points y lastp savep e) = inl (one g ks y _ (refl, λ l. l))
+  tags-kept ns us (marks y can) = inl (one g ks y _ (refl, λ l. l))
+  tags-kept ns us (relinks i l e f may) = inl (λ x. (refl, λ l. l))
+  tags-kept ns us (acts i c u m w there e can) = inl (called i c _ w refl)
+  tags-kept ns us (sends i c at b w plain e byte) = inl (called i c _ w (sent-tag c.shows at b (ks c.task.ticket) _))
+  tags-kept ns us (receives i c n at b w plain e f byte) = inl (called i c _ w refl)
+  tags-kept ns us (hears i c n s w plain e d f) = inl (called i c _ w refl)
+  tags-kept ns us (listens i c bytes w plain) = inl (called i c _ w refl)
+  tags-kept ns us (leaves_bus i c u w plain there e) = inl (called i c _ w refl)
+  tags-kept ns us (completes i c u v s k w plain there e z) = inl (called i c k w (completed-tag v g c.task.ticket (ks c.task.ticket) (session u c) k z))
+  tags-kept ns us (drops_task i c u w plain there e) = inl (called i c _ w refl)
+  tags-kept ns us (reselects n m u k less idle there e) =
       let old = (h.each (g.units n).target).units n less refl in
       let unit : UnitKept g n ks u = subst (UnitKept g n ks) (same_Some old.0 u (sym old.1 ∙ there)) old.2 in
-      all-kept g ks ns (one g ks k.ticket _ (refl, λ l. ap is_live (away-at g n ks m u.tasks k unit.lists.tasks e).life)) a
-  apart-kept ns us (begins y n u idle there lun tag life others) free a = all-kept g ks ns (one g ks y _ (refl, λ l. ap is_live life)) a
-  apart-kept ns us (ask_sends i c at b w sense e byte) free a = all-kept g ks ns (called i c _ w (asked-tag c.shows at b (ks c.task.ticket) _)) a
-  apart-kept ns us (ask_completes i c u v s w sense there e) free a = all-kept g ks ns (called i c _ w refl) a
-  apart-kept ns us (ask_begins y n u idle there lun tag life others) free a = all-kept g ks ns (one g ks y _ (refl, λ l. ap is_live life)) a
-  apart-kept ns us (resets_idle i b idle can) free a = all-kept g ks ns (λ x. reset-tag (nat_eq (target_of g x) i) b (tally x (log_of g (ts i) x)).ends (ks x)) a
-  apart-kept ns us (resets_work i b c u w plain there can) free a =
-      all-kept g ks ns (λ x. both (ks x) (with_at ks c.task.ticket (parts_ticket ks c) x) (ns x) (called i c (parts_ticket ks c) w refl x) (reset-tag (nat_eq (target_of g x) i) b (tally x (log_of g (ts i) x)).ends (with_at ks c.task.ticket (parts_ticket ks c) x))) a
-  apart-kept ns us (resets_asking i c u w sense there) free a = all-kept g ks ns (λ x. reset-tag (nat_eq (target_of g x) i) ByBus (tally x (log_of g (ts i) x)).ends (ks x)) a
+      inl (one g ks k.ticket _ (refl, λ l. ap is_live (away-at g n ks m u.tasks k unit.lists.tasks e).life))
+  tags-kept ns us (begins y n u idle there lun tag life others) = inl (one g ks y _ (refl, λ l. ap is_live life))
+  tags-kept ns us (ask_sends i c at b w sense e byte) = inl (called i c _ w (asked-tag c.shows at b (ks c.task.ticket) _))
+  tags-kept ns us (ask_completes i c u v s w sense there e) = inl (called i c _ w refl)
+  tags-kept ns us (ask_begins y n u idle there lun tag life others) = inl (one g ks y _ (refl, λ l. ap is_live life))
+  tags-kept ns us (resets_idle i b idle can) = inl (λ x. reset-tag (nat_eq (target_of g x) i) b (tally x (log_of g (ts i) x)).ends (ks x))
+  tags-kept ns us (resets_work i b c u w plain there can) =
+      inl (λ x. both (ks x) (with_at ks c.task.ticket (parts_ticket ks c) x) (ns x) (called i c (parts_ticket ks c) w refl x) (reset-tag (nat_eq (target_of g x) i) b (tally x (log_of g (ts i) x)).ends (with_at ks c.task.ticket (parts_ticket ks c) x)))
+  tags-kept ns us (resets_asking i c u w sense there) = inl (λ x. reset-tag (nat_eq (target_of g x) i) ByBus (tally x (log_of g (ts i) x)).ends (ks x))
+
+  built-apart : (ns : ℕ → Ticket) (us : ℕ → Target) (m : Moves g count ks ts ns us) → IsBuild m → TakesFreeTag m → TagsApart g ks → TagsApart g ns
+  built-apart ns us (alone x k u there m) e free a = built g ks x k (free e) a
+  built-apart ns us m e free a = absurd e
+
+  pub apart-kept : (ns : ℕ → Ticket) (us : ℕ → Target) (m : Moves g count ks ts ns us) → TakesFreeTag m → TagsApart g ks → TagsApart g ns
+  apart-kept ns us m free a = by (tags-kept ns us m)
+    where
+      by : ((x : ℕ) → TagKept (ks x) (ns x)) ⊎ IsBuild m → TagsApart g ns
+      by (inl f) = all-kept g ks ns f a
+      by (inr e) = built-apart ns us m e free a
 
 run-apart : (g : Plan) (count : ℕ) → IsPlan g count → (ks : ℕ → Ticket) (ts : ℕ → Target) → Opens g count ks ts → (ns : ℕ → Ticket) (us : ℕ → Target) (r : Run g count ks ts ns us) → TakeFreeTags r → TagsApart g ns
 run-apart g count plan ks ts o ns us none f = λ x y u a b t. absurd (unlive (ks x).life (o.unbuilt x) a)

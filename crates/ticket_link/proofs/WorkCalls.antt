@@ -9,13 +9,14 @@ use Rattle.target_law.specs.declared.task_phase.TaskPhase.TheVariants.{MessageOu
 use Rattle.target_law.specs.declared.task_phase.Completion.{Completion}
 use Rattle.target_law.specs.Session.{closed}
 use Rattle.target_law.specs.Bytes.{Connection, byte_by, sent_by, takes_by, took_by, hears, heard_by}
-use Rattle.target_law.specs.Target.{LogicalUnit, TaskConnected, Target, unit_at, session, linked, ends, leaves}
+use Rattle.target_law.specs.Target.{LogicalUnit, TaskConnected, Target, unit_at, session, linked, ends, leaves, target_reset}
 use Rattle.target_law.specs.Calls.{asked_by, link_byte, sent_if, link_takes, took_if, InitiatorMessage, Names, Resets, AbortsTag, Other, message_of, aborted, told, messaged_by, target_messaged, message_acked, shown_acked, acked_by, target_acked}
 use Rattle.ticket_fate.specs.Tickets.{Plan, Ticket}
-use Rattle.ticket_fate.specs.Linked.{ByDevice}
-use Rattle.ticket_fate.specs.Moves.{Moves, sends, receives, hears as hears_message, listens, leaves_bus, completes, drops_task, ask_sends, ask_completes, resets_work}
+use Rattle.ticket_fate.specs.Linked.{ByDevice, CanReset, reset_tickets}
+use Rattle.ticket_fate.specs.Moves.{parts_ticket, target_of, Moves, sends, receives, hears as hears_message, listens, leaves_bus, completes, drops_task, ask_sends, ask_completes, resets_work}
 use Rattle.ticket_fate.proofs.Targets.{at-lun}
-use Rattle.ticket_link.specs.WorkCalls.{WorkCallsMove}
+use Rattle.ticket_link.specs.CallMoves.{IsCall, CallMoves, DeviceResetMoves}
+use Rattle.ticket_link.specs.WorkCalls.{IsWorking, WorkCallsMove}
 
 -- the target after a call, by its connection
 module _ (t : Target) (c : Connection) (u : LogicalUnit) (link : t.link ≡ TaskConnected c) (there : unit_at t.units c.lun ≡ Some u) where
@@ -65,8 +66,14 @@ module _ (t : Target) (c : Connection) (u : LogicalUnit) (link : t.link ≡ Task
   ended-is v s e = acked-is (CommandComplete v) s e ∙ at-lun t c.lun (λ w. ends t c w (closed v (session w c))) u there
 
 -- a move to a target that is the same
-same-move : (g : Plan) (count : ℕ) (ks ns : ℕ → Ticket) (ts : ℕ → Target) (i : ℕ) (s t : Target) → s ≡ t → Moves g count ks ts ns (with_at ts i t) → Moves g count ks ts ns (with_at ts i s)
-same-move g count ks ns ts i s t e m = subst (λ z. Moves g count ks ts ns (with_at ts i z)) (sym e) m
+same-move : (g : Plan) (count : ℕ) (ks ns : ℕ → Ticket) (ts : ℕ → Target) (i : ℕ) (s t : Target) → s ≡ t → (m : Moves g count ks ts ns (with_at ts i t)) → IsCall m → CallMoves g count ks ts ns (with_at ts i s)
+same-move g count ks ns ts i s t e m call = subst (λ z. CallMoves g count ks ts ns (with_at ts i z)) (sym e) (m, call)
+
+-- BUS DEVICE RESET
+reset-move : (g : Plan) (count : ℕ) (ks : ℕ → Ticket) (ts : ℕ → Target) (i : ℕ) (c : Connection) (u : LogicalUnit) → IsWorking ts i c u → c.task.senses ≡ false → ((x : ℕ) → target_of g x ≡ i → CanReset ByDevice (ks x).life) → (t : Target)
+    → t ≡ target_reset (ts i) → DeviceResetMoves i g count ks ts (reset_tickets g i ByDevice (ts i) (with_at ks c.task.ticket (parts_ticket ks c))) (with_at ts i t)
+reset-move g count ks ts i c u w free can t e =
+    subst (λ z. DeviceResetMoves i g count ks ts (reset_tickets g i ByDevice (ts i) (with_at ks c.task.ticket (parts_ticket ks c))) (with_at ts i z)) (sym e) (resets_work i ByDevice c u w.link free w.there can, (refl, refl))
 
 -- a byte of a message leaves the phase
 phase-stays : (c : Connection) (heard : List ℕ) → c.shows ≡ MessageOut → record c { heard = heard } ≡ record c { heard = heard; shows = MessageOut }
@@ -77,17 +84,17 @@ listened-is t c b e = ap (λ z. linked t (TaskConnected z)) (phase-stays c (hear
 
 pub work-calls-move : WorkCallsMove
 work-calls-move = record {
-  asked = λ g count ks ts i c u w free. same-move g count ks _ ts i _ _ (asked-is (ts i) c u w.link w.there) (listens i c [] w.link free);
+  asked = λ g count ks ts i c u w free. same-move g count ks _ ts i _ _ (asked-is (ts i) c u w.link w.there) (listens i c [] w.link free) tt;
   listened = λ g count ks ts i c u w free b e.
-      same-move g count ks _ ts i _ _ (took-is (ts i) c u w.link w.there MessageOut b e refl ∙ listened-is (ts i) c b e) (listens i c (hears c.heard b) w.link free);
-  received = λ g count ks ts i c u w free n b e byte. same-move g count ks _ ts i _ _ (took-is (ts i) c u w.link w.there (DataOut n) b e refl) (receives i c n c.task.position b w.link free e refl byte);
-  sent = λ g count ks ts i c u w free b e. same-move g count ks _ ts i _ _ (sent-is (ts i) c u w.link w.there b e) (sends i c c.task.position b w.link free refl e);
-  sense_sent = λ g count ks ts i c u w asks b e. same-move g count ks _ ts i _ _ (sent-is (ts i) c u w.link w.there b e) (ask_sends i c c.task.position b w.link asks refl e);
-  aborted = λ g count ks ts i c u w free e r marked. same-move g count ks _ ts i _ _ (aborted-is (ts i) c u w.link w.there e true r) (drops_task i c u w.link free w.there marked);
-  sent_away = λ g count ks ts i c u w free f h saves. same-move g count ks _ ts i _ _ (away-by (ts i) c u w.link w.there (message_of c.heard) refl f h) (leaves_bus i c u w.link free w.there saves);
-  reset = λ g count ks ts i c u w free e can. same-move g count ks _ ts i _ _ (told-is (ts i) c u w.link w.there Resets e) (resets_work i ByDevice c u w.link free w.there can);
-  heard = λ g count ks ts i c u w free n s e d f. same-move g count ks _ ts i _ _ (heard-is (ts i) c u w.link w.there n s e d f) (hears_message i c n s w.link free e d f);
-  left = λ g count ks ts i c u w free s e saves. same-move g count ks _ ts i _ _ (left-is (ts i) c u w.link w.there s e) (leaves_bus i c u w.link free w.there saves);
-  completed = λ g count ks ts i c u w free v s e k z. same-move g count ks _ ts i _ _ (ended-is (ts i) c u w.link w.there v s e) (completes i c u v s k w.link free w.there e z);
-  sense_completed = λ g count ks ts i c u w asks v s e. same-move g count ks _ ts i _ _ (ended-is (ts i) c u w.link w.there v s e) (ask_completes i c u v s w.link asks w.there e);
+      same-move g count ks _ ts i _ _ (took-is (ts i) c u w.link w.there MessageOut b e refl ∙ listened-is (ts i) c b e) (listens i c (hears c.heard b) w.link free) tt;
+  received = λ g count ks ts i c u w free n b e byte. same-move g count ks _ ts i _ _ (took-is (ts i) c u w.link w.there (DataOut n) b e refl) (receives i c n c.task.position b w.link free e refl byte) tt;
+  sent = λ g count ks ts i c u w free b e. same-move g count ks _ ts i _ _ (sent-is (ts i) c u w.link w.there b e) (sends i c c.task.position b w.link free refl e) tt;
+  sense_sent = λ g count ks ts i c u w asks b e. same-move g count ks _ ts i _ _ (sent-is (ts i) c u w.link w.there b e) (ask_sends i c c.task.position b w.link asks refl e) tt;
+  aborted = λ g count ks ts i c u w free e r marked. same-move g count ks _ ts i _ _ (aborted-is (ts i) c u w.link w.there e true r) (drops_task i c u w.link free w.there marked) tt;
+  sent_away = λ g count ks ts i c u w free f h saves. same-move g count ks _ ts i _ _ (away-by (ts i) c u w.link w.there (message_of c.heard) refl f h) (leaves_bus i c u w.link free w.there saves) tt;
+  reset = λ g count ks ts i c u w free e can. reset-move g count ks ts i c u w free can (target_messaged (ts i)) (told-is (ts i) c u w.link w.there Resets e);
+  heard = λ g count ks ts i c u w free n s e d f. same-move g count ks _ ts i _ _ (heard-is (ts i) c u w.link w.there n s e d f) (hears_message i c n s w.link free e d f) tt;
+  left = λ g count ks ts i c u w free s e saves. same-move g count ks _ ts i _ _ (left-is (ts i) c u w.link w.there s e) (leaves_bus i c u w.link free w.there saves) tt;
+  completed = λ g count ks ts i c u w free v s e k z. same-move g count ks _ ts i _ _ (ended-is (ts i) c u w.link w.there v s e) (completes i c u v s k w.link free w.there e z) tt;
+  sense_completed = λ g count ks ts i c u w asks v s e. same-move g count ks _ ts i _ _ (ended-is (ts i) c u w.link w.there v s e) (ask_completes i c u v s w.link asks w.there e) tt;
 }

@@ -9,6 +9,7 @@ use Rattle.ticket_fate.specs.Tickets.{Plan, Ticket}
 use Rattle.ticket_fate.specs.Linked.{HasRogue}
 use Rattle.ticket_fate.specs.Moves.{IsIdle, MayLink, target_of, Moves}
 use Rattle.ticket_fate.specs.Laws.{Reached}
+use Rattle.ticket_link.specs.CallMoves.{CallMoves}
 use Rattle.ticket_link.specs.Tags.{TagsApart, TakeFreeTags, IsItsTicket, AreTheirTickets}
 
 abbrev pub TagsNameOne : Type 0
@@ -42,4 +43,4 @@ pub record IdleCallsRelink : Type 0 where
   pub taken : (g : Plan) (i : ℕ) (t : Target) (b : ℕ) → IsIdle t.link → MayLink g i t.link → Relinks g i t (linked t (took_if (link_takes t.link) t.link b))
   pub messaged : (g : Plan) (i : ℕ) (t : Target) → IsIdle t.link → MayLink g i t.link → Relinks g i t (target_messaged t) ⊎ (target_messaged t ≡ target_reset t)
   pub acked : (g : Plan) (i : ℕ) (t : Target) → IsIdle t.link → MayLink g i t.link → Relinks g i t (target_acked t)
-  pub moves : (g : Plan) (count : ℕ) (ks : ℕ → Ticket) (ts : ℕ → Target) (i : ℕ) (s : Target) → IsIdle (ts i).link → Relinks g i (ts i) s → Moves g count ks ts ks (with_at ts i s)
+  pub moves : (g : Plan) (count : ℕ) (ks : ℕ → Ticket) (ts : ℕ → Target) (i : ℕ) (s : Target) → IsIdle (ts i).link → Relinks g i (ts i) s → CallMoves g count ks ts ks (with_at ts i s)

@@ -1,4 +1,6 @@
 pub mod Tags
+pub mod CallMoves
 pub mod WorkCalls
 pub mod Pointers
 pub mod Laws
+pub mod Sessions

@@ -11,6 +11,11 @@ use Rattle.ticket_fate.specs.Histories.{Run, none, more}
 abbrev pub TagsApart : Plan → (ℕ → Ticket) → Type 0
 TagsApart g ks = (x y : ℕ) → unit_of g x ≡ unit_of g y → is_live (ks x).life ≡ true → is_live (ks y).life ≡ true → (ks x).tag ≡ (ks y).tag → x ≡ y
 
+-- a ticket is built
+abbrev pub IsBuild : {g : Plan} {count : ℕ} {ks : ℕ → Ticket} {ts : ℕ → Target} {ns : ℕ → Ticket} {us : ℕ → Target} → Moves g count ks ts ns us → Type 0
+IsBuild {ks = ks} (alone x k u there m) = (ks x).life ≡ Unbuilt
+IsBuild _ = ⊥
+
 -- a Build takes a tag that no live ticket of the unit has
 abbrev pub TakesFreeTag : {g : Plan} {count : ℕ} {ks : ℕ → Ticket} {ts : ℕ → Target} {ns : ℕ → Ticket} {us : ℕ → Target} → Moves g count ks ts ns us → Type 0
 TakesFreeTag {g = g} {ks = ks} (alone x k u there m) = (ks x).life ≡ Unbuilt → (y : ℕ) → unit_of g y ≡ unit_of g x → is_live (ks y).life ≡ true → (ks y).tag ≡ k.tag → ⊥

@@ -11,16 +11,17 @@ use Rattle.target_law.specs.Target.{LogicalUnit, TaskConnected, Target, unit_at,
 use Rattle.target_law.specs.Calls.{asked_by, link_byte, sent_if, link_takes, took_if, Resets, AbortsTag, message_of, target_messaged, target_acked}
 use Rattle.ticket_fate.specs.Tickets.{Plan, Away, Asked, Finished, Ticket, with_life, ticket_sent, ticket_asked}
 use Rattle.ticket_fate.specs.Linked.{ByDevice, CanReset, reset_tickets}
-use Rattle.ticket_fate.specs.Moves.{CompletesTicket, parts_ticket, target_of, Moves}
+use Rattle.ticket_fate.specs.Moves.{CompletesTicket, parts_ticket, target_of}
+use Rattle.ticket_link.specs.CallMoves.{CallMoves, DeviceResetMoves}
 
 -- a task of this unit is connected to target i
 pub record IsWorking (ts : ℕ → Target) (i : ℕ) (c : Connection) (u : LogicalUnit) : Type 0 where
   pub link : (ts i).link ≡ TaskConnected c
   pub there : unit_at (ts i).units c.lun ≡ Some u
 
--- its ticket becomes k, and its target t, by one move
+-- its ticket becomes k, and its target t, by one call of the bus
 abbrev pub MovesTo : Plan → ℕ → (ℕ → Ticket) → (ℕ → Target) → ℕ → Connection → Ticket → Target → Type 0
-MovesTo g count ks ts i c k t = Moves g count ks ts (with_at ks c.task.ticket k) (with_at ts i t)
+MovesTo g count ks ts i c k t = CallMoves g count ks ts (with_at ks c.task.ticket k) (with_at ts i t)
 
 pub record WorkCallsMove : Type 0 where
   pub asked : (g : Plan) (count : ℕ) (ks : ℕ → Ticket) (ts : ℕ → Target) (i : ℕ) (c : Connection) (u : LogicalUnit) → IsWorking ts i c u → c.task.senses ≡ false
@@ -42,7 +43,7 @@ pub record WorkCallsMove : Type 0 where
       → MovesTo g count ks ts i c (record (ks c.task.ticket) { life = Away; task = away c.task }) (target_messaged (ts i))
   pub reset : (g : Plan) (count : ℕ) (ks : ℕ → Ticket) (ts : ℕ → Target) (i : ℕ) (c : Connection) (u : LogicalUnit) → IsWorking ts i c u → c.task.senses ≡ false → message_of c.heard ≡ Resets
       → ((x : ℕ) → target_of g x ≡ i → CanReset ByDevice (ks x).life)
-      → Moves g count ks ts (reset_tickets g i ByDevice (ts i) (with_at ks c.task.ticket (parts_ticket ks c))) (with_at ts i (target_messaged (ts i)))
+      → DeviceResetMoves i g count ks ts (reset_tickets g i ByDevice (ts i) (with_at ks c.task.ticket (parts_ticket ks c))) (with_at ts i (target_messaged (ts i)))
   -- a message of the target is acknowledged
   pub heard : (g : Plan) (count : ℕ) (ks : ℕ → Ticket) (ts : ℕ → Target) (i : ℕ) (c : Connection) (u : LogicalUnit) → IsWorking ts i c u → c.task.senses ≡ false → (n : TargetMessage) (s : Bool) → c.shows ≡ MessageIn n s
       → ((v : Completion) → n ≡ CommandComplete v → ⊥) → (n ≡ Disconnect → ⊥) → MovesTo g count ks ts i c (record (ks c.task.ticket) { task = (heard_by n c).task }) (target_acked (ts i))

@@ -2,6 +2,7 @@
 
 ghost use Rattle.ticket_link.specs.Laws.{TagsNameOne, ConnectedIsItsTicket, WaitingAreTheirTickets, OneTargetMoves, IdleCallsRelink};
 ghost use Rattle.ticket_link.specs.Pointers.{PointersFollow};
+ghost use Rattle.ticket_link.specs.Sessions.{SessionsSayMore};
 ghost use Rattle.ticket_link.specs.WorkCalls.{WorkCallsMove};
 
 /// Where each Build takes a tag that no live ticket of the unit has, a tag of a unit names at most one live ticket,
@@ -38,4 +39,10 @@ pub fn work_calls_move()
 /// back to the saved one; nothing else moves either.
 pub fn pointers_follow()
     ensures { PointersFollow }
+{}
+
+/// A refusal comes before anything has moved and isn't GOOD, a data phase isn't fresh, and a fresh task has moved nothing
+/// and keeps nothing, also while it waits; a sense task refuses nothing.
+pub fn sessions_say_more()
+    ensures { SessionsSayMore }
 {}

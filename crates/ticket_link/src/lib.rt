@@ -5,6 +5,6 @@
 mod laws;
 
 pub use laws::{
-    idle_calls_relink, one_target_moves, pointers_follow, tags_name_one, tasks_are_their_tickets,
-    work_calls_move,
+    idle_calls_relink, one_target_moves, pointers_follow, sessions_say_more, tags_name_one,
+    tasks_are_their_tickets, work_calls_move,
 };

@@ -31,7 +31,7 @@ head-at dsa a e z l = record { aligned = omega (arith, e, z); inside = omega (ar
 pub head-block : (dsa a : ℕ) → dsa ≡ a → IsCommandBlock a → IsHead dsa
 head-block dsa a e b = record { aligned = omega (arith, e, b.aligned); inside = omega (arith, e, b.below) }
 
-head-start : (dsa i : ℕ) → dsa ≡ start_slot i → IsHead dsa
+pub head-start : (dsa i : ℕ) → dsa ≡ start_slot i → IsHead dsa
 head-start dsa i e = record { aligned = omega (arith, e); inside = omega (arith, e) }
 
 pub head-done : (dsa i : ℕ) → dsa ≡ done_slot i → IsHead dsa

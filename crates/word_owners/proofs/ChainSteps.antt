@@ -122,7 +122,7 @@ module _ (version : ℕ) (units : List RigUnit) (p : Point) (c : Counts) (w : Wo
       subst (λ (o : Op). IsAt (chip_of w) o) i.is
       (subst (λ (d : ℕ). Spelled (word_at w.memory d) (word_at w.memory (d + 4)) z (slice_index_or ops j Nop)) (sym dsp-is) (i.spells.at j z i.inside))
 
-  does-here : Does (moves w.desk.units (live w.desk)) word op (chip_of w) (after_fetch (chip_of w)) run.end run.chip
+  pub does-here : Does (moves w.desk.units (live w.desk)) word op (chip_of w) (after_fetch (chip_of w)) run.end run.chip
   does-here = ChipStep-does (moves w.desk.units (live w.desk)) word (chip_of w) run.end run.chip op h.stays.2 (fetches w.memory w.regs (a + 8 * j) h.size dsp-is (omega (arith, i.aligned)) (omega (arith, i.below))) stands-here run.ran
 
   behind-here : f.dsp ≡ a + 8 * j + 8

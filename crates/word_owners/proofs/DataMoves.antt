@@ -51,11 +51,11 @@ use Rattle.word_owners.proofs.Beside.{Beside, beside-low, beside-head, beside_ho
 
 -- ---- the entries of a block
 
-address-next : (e : Entry) → offset (address_field e) ≡ offset (count_field e) + 4
+pub address-next : (e : Entry) → offset (address_field e) ≡ offset (count_field e) + 4
 address-next (Segment j) = omega arith
 address-next (Context k) = omega arith
 
-entry-below : (e : Entry) → IsEntry e → (0x40 ≤ offset (count_field e)) × (offset (count_field e) + 8 ≤ 0xE0)
+pub entry-below : (e : Entry) → IsEntry e → (0x40 ≤ offset (count_field e)) × (offset (count_field e) + 8 ≤ 0xE0)
 entry-below (Segment j) h = (omega arith, omega arith)
 entry-below (Context k) h = (omega arith, omega arith)
 

@@ -33,7 +33,8 @@ use Rattle.word_owners.proofs.ChipWork.{Onward, work-onward}
 use Rattle.word_owners.proofs.Lists.{desk-turns, desk-staged, desk-checked, same-fixed}
 use Rattle.word_owners.proofs.ChipPlace.{patched, quiet_holds, entries-at, unasked-same, closing-worker}
 use Rattle.word_owners.proofs.Room.{done-room}
-use Rattle.word_owners.proofs.Sweeps.{both, equal}
+use Rattle.word_owners.proofs.Sweeps.{equal}
+use Rattle.std.proofs.lemmas.Bool.{and_parts}
 use Rattle.word_owners.proofs.Patches.{few}
 
 -- ---- the slot is idle again
@@ -203,7 +204,7 @@ taken-so false false false m w ts t k e a h s = ended-so w ts t k (taken_by fals
 pub found : (d : DeskState) (block t : ℕ) → position (has_block block) d.tickets ≡ Some t → (lives (ticket d t) ≡ true) × ((ticket d t).block ≡ block)
 found d block t e =
     let p = (position-Some (has_block block) d.tickets t no_ticket e).1 in
-    let q = both (lives (ticket d t)) ((ticket d t).block == block) p in
+    let q = and_parts (lives (ticket d t)) ((ticket d t).block == block) p in
     (q.0, equal (ticket d t).block block q.1)
 
 pub lives-live : (s : Stage) → not (is_freed s) ≡ true → s ≢ stage.Freed
@@ -255,7 +256,7 @@ take_holds version units s c w t e ended h =
     let o = closing_at s in
     let k : Ticket = taken d w.memory (ticket d t) in
     let so = taken-so (is_again d w.memory (ticket d t)) (asks_sense d w.memory (ticket d t)) (is_sensing (ticket d t).stage) w.memory v ts t (ticket d t) refl over.stage (h.tickets.turned t)
-    (λ q. h.parts.there t live (inr (inr (equal (state_of w.memory (ticket d t)) ENDED (both (state_of w.memory (ticket d t) == ENDED) (status_byte w.memory (ticket d t) == 2) (both (has_status w.memory (ticket d t) 2) (d.autosense && (not (is_rogue d (ticket d t)) && not (is_marked w.memory (ticket d t)))) q).0).0)))) in
+    (λ q. h.parts.there t live (inr (inr (equal (state_of w.memory (ticket d t)) ENDED (and_parts (state_of w.memory (ticket d t) == ENDED) (status_byte w.memory (ticket d t) == 2) (and_parts (has_status w.memory (ticket d t) 2) (d.autosense && (not (is_rogue d (ticket d t)) && not (is_marked w.memory (ticket d t)))) q).0).0)))) in
     let c' : Counts = record c { taken = c.taken + 1 } in
     let idle : (u : ℕ) → worker (role (work_at s)) ≡ Some u → u ≢ t = λ u q z. at-work (role (work_at s)) v ts c t u q z over slot more h.works.plays in
     let turns = desk-turns d t k live in

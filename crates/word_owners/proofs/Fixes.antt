@@ -256,11 +256,11 @@ module _ (version : ℕ) (units : List RigUnit) (t : ℕ) (x : DataMove) (left :
   repairable = record { count = off.most; ends = omega (arith, off.within); returns = (h.parts.blocks t alive).returns }
 
   -- the instruction before DSP is the move
-  moved : move_at (w.regs.dsp - 8) ≡ Some x
+  pub moved : move_at (w.regs.dsp - 8) ≡ Some x
   moved = let e : w.regs.dsp - 8 ≡ move_place x.phase x.entry = omega (arith, off.dsp) in ap move_at e ∙ h.works.extra.at
 
   -- it can be repaired
-  can : CanFix w
+  pub can : CanFix w
   can =
       let place : IsBlockPlace w.regs.dsa = subst IsBlockPlace (sym off.dsa) (place_of_command (block_of (tickets_of w.desk) t) (h.tickets.block t alive)) in
       record {

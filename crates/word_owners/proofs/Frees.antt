@@ -1,7 +1,6 @@
 -- Free keeps the invariant: the ticket lives no more, and its block's GATE is BADTASK.
 use Rattle.std.proofs.Common.{◌≡◌, ◌≢◌, ◌⊎◌, inl, inr, ℕ, List, [], ◌∷◌, ◌++◌, refl, sym, ap, subst, ◌∙◌, Option, Some}
 use Rattle.bench_words.specs.Memory.{word_at}
-use Rattle.rig_types.specs.declared.rig.Unit.{Unit as RigUnit}
 use Rattle.rig_types.specs.declared.report.Report.{Report}
 use Rattle.cmd_block.specs.declared.Field.TheVariants.{Gate}
 use Rattle.phase_fix.specs.Remain.{field}
@@ -16,7 +15,7 @@ use Rattle.word_owners.specs.Tickets.{Tickets, tickets_of, block_of, target_of, 
 use Rattle.word_owners.specs.Points.{Work}
 use Rattle.word_owners.specs.Parts.{Counts, Parts, TagTables, IsEntry, IsBlock, IsFresh}
 use Rattle.word_owners.specs.Works.{role, worker, Works}
-use Rattle.word_owners.specs.Holds.{Spot, Holds, closing_at, work_at}
+use Rattle.word_owners.specs.Holds.{Holds, closing_at, work_at}
 use Rattle.word_owners.specs.Laws.{FreeHolds}
 use Rattle.word_owners.proofs.Frames.{same_or}
 use Rattle.word_owners.proofs.StageChanges.{Turns, staged, Aside, aside, live-before, tickets-turned, start-turned, done-turned, front-turned, answered-turned, works-turned, work-kept, to-other}

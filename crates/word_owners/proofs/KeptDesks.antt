@@ -1,7 +1,7 @@
 -- Each step of the bench but Build keeps how many tickets of a unit live, and what they own of the buffer region.
-use Rattle.std.proofs.Common.{arith, ◌≡◌, ◌≢◌, ◌⊎◌, inl, inr, ℕ, ◌+◌, ◌<◌, ◌≤◌, ◌==◌, ◌&&◌, ◌||◌, Bool, true, false, cond, not, List, length, Option, Some, None, refl, sym, ap, subst, ◌∙◌, get_or, set, get_or-set_same, get_or-set_other}
+use Rattle.std.proofs.Common.{arith, ◌≡◌, ◌≢◌, ◌⊎◌, inl, inr, ℕ, ◌+◌, ◌<◌, ◌≤◌, ◌==◌, ◌||◌, Bool, true, false, cond, not, List, length, Option, Some, None, refl, sym, ap, subst, ◌∙◌, get_or, set, get_or-set_same, get_or-set_other}
 use Rattle.std.specs.Prelude.{count_by, filter, slice_get}
-use Rattle.std.proofs.lemmas.Bool.{cases_lt}
+use Rattle.std.proofs.lemmas.Bool.{and_parts, cases_lt}
 use Rattle.std.proofs.lemmas.Bool.Decides.{nat_tests}
 use Rattle.std.proofs.lemmas.List.{get_or_past}
 use Rattle.std.proofs.lemmas.List.Sums.{sum_by-set, length-filter}
@@ -48,7 +48,7 @@ bit-most false b h = omega arith
 
 -- ---- one ticket turns
 
-is-within : (ts : List Ticket) (t : ℕ) → lives (get_or ts t no_ticket) ≡ true → (t < length ts) ⊎ (length ts ≤ t) → t < length ts
+pub is-within : (ts : List Ticket) (t : ℕ) → lives (get_or ts t no_ticket) ≡ true → (t < length ts) ⊎ (length ts ≤ t) → t < length ts
 is-within ts t e (inl l) = l
 is-within ts t e (inr l) = let z : true ≡ false = sym e ∙ ap lives (get_or_past ts t no_ticket l) in absurd cc
 
@@ -113,10 +113,10 @@ same old new tickets units space h =
 
 -- ---- the ticket of a step lives
 
-alive-at : (k : Ticket) (x : Stage) → k.stage ≡ x → is_freed x ≡ false → lives k ≡ true
+pub alive-at : (k : Ticket) (x : Stage) → k.stage ≡ x → is_freed x ≡ false → lives k ≡ true
 alive-at k x e f = ap (λ (s : Stage). not (is_freed s)) e ∙ ap not f
 
-ended-lives : (k : Ticket) (x : Stage) → k.stage ≡ x → IsEnded x → lives k ≡ true
+pub ended-lives : (k : Ticket) (x : Stage) → k.stage ≡ x → IsEnded x → lives k ≡ true
 ended-lives k (stage.Ended o) e i = alive-at k (stage.Ended o) e refl
 ended-lives k stage.Built e i = absurd i
 ended-lives k stage.Linked e i = absurd i
@@ -127,7 +127,7 @@ ended-lives k stage.Sensing e i = absurd i
 ended-lives k stage.Unlinked e i = absurd i
 ended-lives k stage.Freed e i = absurd i
 
-queue-lives : (w : World) (caller : ℕ) (k : Ticket) (x : Stage) → k.stage ≡ x → MayQueue w caller k x → lives k ≡ true
+pub queue-lives : (w : World) (caller : ℕ) (k : Ticket) (x : Stage) → k.stage ≡ x → MayQueue w caller k x → lives k ≡ true
 queue-lives w caller k stage.Linked e m = alive-at k stage.Linked e refl
 queue-lives w caller k stage.Again e m = alive-at k stage.Again e refl
 queue-lives w caller k stage.Built e m = absurd m
@@ -138,7 +138,7 @@ queue-lives w caller k (stage.Ended o) e m = absurd m
 queue-lives w caller k stage.Unlinked e m = absurd m
 queue-lives w caller k stage.Freed e m = absurd m
 
-active-lives : (k : Ticket) (x : Stage) → k.stage ≡ x → (is_queued x || is_sensing x) ≡ true → lives k ≡ true
+pub active-lives : (k : Ticket) (x : Stage) → k.stage ≡ x → (is_queued x || is_sensing x) ≡ true → lives k ≡ true
 active-lives k stage.Queued e a = alive-at k stage.Queued e refl
 active-lives k stage.Sensing e a = alive-at k stage.Sensing e refl
 active-lives k stage.Built e a = absurd cc
@@ -148,10 +148,6 @@ active-lives k stage.Check e a = absurd cc
 active-lives k (stage.Ended o) e a = absurd cc
 active-lives k stage.Unlinked e a = absurd cc
 active-lives k stage.Freed e a = absurd cc
-
-both : (a b : Bool) → a && b ≡ true → (a ≡ true) × (b ≡ true)
-both true b h = (refl, h)
-both false b h = absurd cc
 
 left-of : (a b : Bool) → a ≡ true → (a || b) ≡ true
 left-of true b e = refl
@@ -170,19 +166,19 @@ lost-active w k (Some Rst) p e = by (passed w.memory w.desk k) (is_sensing k.sta
         either true b e = refl
         either false b e = e
     by false false f g h = absurd cc
-lost-active w k (Some (Sir v)) p e = p (both _ _ (both _ _ e).1).0
+lost-active w k (Some (Sir v)) p e = p (and_parts _ _ (and_parts _ _ e).1).0
 lost-active w k (Some Iid) p e = absurd cc
 lost-active w k (Some Bf) p e = absurd cc
 lost-active w k (Some Ma) p e = absurd cc
 lost-active w k (Some Udc) p e = absurd cc
 lost-active w k (Some Sto) p e = absurd cc
 
-swept-lives : (w : World) (k : Ticket) → to_sweep w k ≡ true → lives k ≡ true
+pub swept-lives : (w : World) (k : Ticket) → to_sweep w k ≡ true → lives k ≡ true
 swept-lives w k e =
-    let a = both (is_clear w.stop) _ e in
-    let b = both (state_of w.memory k == LIVE) _ a.1 in
-    let c = both (not (is_tails w k)) (loses w k (cause_of w.regs)) b.1 in
-    active-lives k k.stage refl (lost-active w k (cause_of w.regs) (λ p. left-of (is_queued k.stage) (is_sensing k.stage) (both (is_queued k.stage) _ p).0) c.1)
+    let a = and_parts (is_clear w.stop) _ e in
+    let b = and_parts (state_of w.memory k == LIVE) _ a.1 in
+    let c = and_parts (not (is_tails w k)) (loses w k (cause_of w.regs)) b.1 in
+    active-lives k k.stage refl (lost-active w k (cause_of w.regs) (λ p. left-of (is_queued k.stage) (is_sensing k.stage) (and_parts (is_queued k.stage) _ p).0) c.1)
 
 -- a ticket that is taken keeps its unit and its pieces
 taken-unit : (sensing again check : Bool) (m : List ℕ) (k : Ticket) → (taken_by sensing again check m k).unit ≡ k.unit
@@ -206,7 +202,7 @@ takes-kept : (o : Option ℕ) (w new : World) (answer : Reply) → is_done_by w 
 takes-kept None w new answer e d h = absurd d
 takes-kept (Some t) w new answer e d h =
     let k = ticket w.desk t in
-    let alive = active-lives k k.stage refl (both (is_queued k.stage || is_sensing k.stage) _ e).0 in
+    let alive = active-lives k k.stage refl (and_parts (is_queued k.stage || is_sensing k.stage) _ e).0 in
     kept-world w new _ d.1 (turned w.desk _ t (taken w.desk w.memory k) refl refl alive (taken-unit (is_sensing k.stage) (is_again w.desk w.memory k) (is_check w.desk w.memory k) w.memory k) refl
     (taken-pieces (is_sensing k.stage) (is_again w.desk w.memory k) (is_check w.desk w.memory k) w.memory k) h)
 

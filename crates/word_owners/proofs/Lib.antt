@@ -41,6 +41,7 @@ pub mod TagSteps
 pub mod ContextSteps
 pub mod ChainOps
 pub mod ChainSteps
+pub mod RunningChip
 pub mod AllSteps
 pub mod DriverSteps
 pub mod BenchSteps
@@ -58,3 +59,14 @@ pub mod KeptDesks
 pub mod Worlds
 pub mod BufferWrites
 pub mod BufferRuns
+pub mod NextPlaces
+pub mod WakeSteps
+pub mod Callers
+pub mod DriverPasses
+pub mod Wakes
+pub mod NeverFails
+pub mod Vectors
+pub mod Standing
+pub mod Overruns
+pub mod TouchedBytes
+pub mod Touches

@@ -256,7 +256,7 @@ tags-unlinked w n ts new t s d few l turns b r h =
     two d t v l k ne (inr e) = inl e
 
 -- what IsEnded means of a stage
-ended-not-active : (x : Stage) → IsEnded x → IsActive x → ⊥
+pub ended-not-active : (x : Stage) → IsEnded x → IsActive x → ⊥
 ended-not-active (stage.Ended o) h (inl e) = absurd cc
 ended-not-active (stage.Ended o) h (inr e) = absurd cc
 ended-not-active stage.Built h e = h
@@ -268,7 +268,7 @@ ended-not-active stage.Sensing h e = h
 ended-not-active stage.Unlinked h e = h
 ended-not-active stage.Freed h e = h
 
-ended-live : (x : Stage) → IsEnded x → x ≢ stage.Freed
+pub ended-live : (x : Stage) → IsEnded x → x ≢ stage.Freed
 ended-live (stage.Ended o) h e = absurd cc
 ended-live stage.Freed h e = h
 ended-live stage.Built h e = h

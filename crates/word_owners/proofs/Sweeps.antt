@@ -2,6 +2,7 @@
 use Rattle.std.proofs.Common.{◌≡◌, ◌≢◌, ◌⊎◌, inl, inr, ℕ, zero, suc, ◌+◌, ◌-◌, ◌/◌, ◌%◌, ◌<◌, ◌≤◌, List, map, Bool, true, false, refl, sym, ap, subst, ◌∙◌, arith, Option, Some, None}
 use Rattle.std.specs.Prelude.{◌==◌, ◌&&◌, ◌||◌, not, if◌then◌else◌, nat_le, nat_lt}
 use Rattle.std.specs.List.{list_any}
+use Rattle.std.proofs.lemmas.Bool.{and_parts}
 use Rattle.std.proofs.lemmas.Bool.Decides.{nat_tests}
 use Rattle.bench_words.specs.Memory.{word_at, put_word}
 use Rattle.bench_words.proofs.Bytes.{bytes-put_word}
@@ -53,10 +54,6 @@ use Rattle.word_owners.proofs.Lists.{desk-turns, desk-staged, desk-checked, same
 use Rattle.job_rings.proofs.RingLaws.{counts_start_slots}
 use Rattle.word_owners.proofs.Room.{start-room}
 use Rattle.word_owners.proofs.Patches.{few}
-
-pub both : (a b : Bool) → (a && b) ≡ true → (a ≡ true) × (b ≡ true)
-both true b e = (refl, e)
-both false b e = absurd cc
 
 either : (a b : Bool) → (a || b) ≡ true → (a ≡ true) ⊎ (b ≡ true)
 either true b e = inl refl
@@ -111,7 +108,7 @@ sensing-is stage.Freed e = absurd cc
 
 -- ---- the start ring as the driver reads it
 
-slot-next : (n : ℕ) → next_slot START_RING (start_slot n) ≡ start_slot (n + 1)
+pub slot-next : (n : ℕ) → next_slot START_RING (start_slot n) ≡ start_slot (n + 1)
 slot-next n = counts_start_slots.next n
 
 -- a slot that holds a block is met among so many
@@ -127,21 +124,21 @@ meets m block (suc n) s i l u e =
     ]
 
 -- from the slot at RINGP up to the driver's next one
-is-start : (s : ℕ) → is_start_slot (start_slot s) ≡ true
+pub is-start : (s : ℕ) → is_start_slot (start_slot s) ≡ true
 is-start s =
     let a : nat_le START_RING (start_slot s) ≡ true = grind (arith, nat_tests) in
     let b : nat_lt (start_slot s) (START_RING + 4096) ≡ true = grind (arith, nat_tests) in
     let c : ((start_slot s - START_RING) % 8 == 0) ≡ true = is-equal ((start_slot s - START_RING) % 8) 0 (omega arith) in
     and-true (nat_le START_RING (start_slot s) && nat_lt (start_slot s) (START_RING + 4096)) ((start_slot s - START_RING) % 8 == 0) (and-true (nat_le START_RING (start_slot s)) (nat_lt (start_slot s) (START_RING + 4096)) a b) c
 
-count-is : (s q : ℕ) → s ≤ q → q ≤ s + 256 → waiting_count (start_slot s) (start_slot q) ≡ q - s
+pub count-is : (s q : ℕ) → s ≤ q → q ≤ s + 256 → waiting_count (start_slot s) (start_slot q) ≡ q - s
 count-is s q l u =
     let d : (start_slot q + 4096 - start_slot s) % 4096 / 8 ≡ q - s = omega arith in
     if-true (is_start_slot (start_slot s)) ((start_slot q + 4096 - start_slot s) % 4096 / 8) 0 (is-start s) ∙ d
 
 passed-out : (version : ℕ) (units : List RigUnit) (s : Spot) (c : Counts) (w : World) (t : ℕ) → Holds version units s c w → passed w.memory w.desk (ticket w.desk t) ≡ true → (i : ℕ) → c.started ≤ i → i < c.queued → word_at w.memory (start_slot i) ≢ (ticket w.desk t).block
 passed-out version units s c w t h e i l u f =
-    let p = both (is_queued (ticket w.desk t).stage) (not (waits w.memory w.desk (ticket w.desk t))) e in
+    let p = and_parts (is_queued (ticket w.desk t).stage) (not (waits w.memory w.desk (ticket w.desk t))) e in
     let room : c.queued ≤ c.started + 256 = start-room (word_at w.memory) (tickets_of w.desk) c h.tickets h.parts.start in
     let n : waiting_count (word_at w.memory 0x1004) w.desk.put ≡ c.queued - c.started =
     ap (λ (x : ℕ). waiting_count x w.desk.put) h.parts.ringp ∙ ap (waiting_count (start_slot c.started)) h.put ∙ count-is c.started c.queued h.parts.start.order room in
@@ -154,30 +151,30 @@ passed-out version units s c w t h e i l u f =
 -- ---- which tickets are swept
 
 -- STATE of a ticket that is to be swept is 0, it isn't the tail's, and the reset lost it
-record ToSweep (w : World) (k : Ticket) : Type 0 where
-  clear : is_clear w.stop ≡ true
-  live : field_of w.memory k.block State ≡ 0
-  tails : is_tails w k ≡ false
-  lost : loses w k (cause_of w.regs) ≡ true
+pub record ToSweep (w : World) (k : Ticket) : Type 0 where
+  pub clear : is_clear w.stop ≡ true
+  pub live : field_of w.memory k.block State ≡ 0
+  pub tails : is_tails w k ≡ false
+  pub lost : loses w k (cause_of w.regs) ≡ true
 
 not-true : (b : Bool) → not b ≡ true → b ≡ false
 not-true true e = absurd cc
 not-true false e = refl
 
-to-sweep : (w : World) (k : Ticket) → to_sweep w k ≡ true → ToSweep w k
+pub to-sweep : (w : World) (k : Ticket) → to_sweep w k ≡ true → ToSweep w k
 to-sweep w k e =
-    let a = both (is_clear w.stop) (field_of w.memory k.block State == LIVE && (not (is_tails w k) && loses w k (cause_of w.regs))) e in
-    let b = both (field_of w.memory k.block State == LIVE) (not (is_tails w k) && loses w k (cause_of w.regs)) a.1 in
-    let c = both (not (is_tails w k)) (loses w k (cause_of w.regs)) b.1 in
+    let a = and_parts (is_clear w.stop) (field_of w.memory k.block State == LIVE && (not (is_tails w k) && loses w k (cause_of w.regs))) e in
+    let b = and_parts (field_of w.memory k.block State == LIVE) (not (is_tails w k) && loses w k (cause_of w.regs)) a.1 in
+    let c = and_parts (not (is_tails w k)) (loses w k (cause_of w.regs)) b.1 in
     record { clear = a.0; live = equal (field_of w.memory k.block State) LIVE b.0; tails = not-true (is_tails w k) c.0; lost = c.1 }
 
 -- it was passed, or its sense was asked for while FRONT asks for none
-abbrev IsLost : World → Ticket → Type 0
+abbrev pub IsLost : World → Ticket → Type 0
 IsLost w k = (passed w.memory w.desk k ≡ true) ⊎ ((is_sensing k.stage ≡ true) × IsUnasked (word_at w.memory))
 
 -- what a sweep needs to know
-record Sweepable (s : Spot) (w : World) (t : ℕ) : Type 0 where
-  lost : IsLost w (ticket w.desk t)
+pub record Sweepable (s : Spot) (w : World) (t : ℕ) : Type 0 where
+  pub lost : IsLost w (ticket w.desk t)
   idle : (u : ℕ) → worker (role (work_at s)) ≡ Some u → u ≢ t
 
 -- in the tail a ticket that is worked on is the one at DSA
@@ -231,7 +228,7 @@ reset-idle p ts c w t place resume at k out b plays u e z = by-role (role (about
 cause-lost : (w : World) (k : Ticket) (cause : Cause) → cause_of w.regs ≡ Some cause → loses w k (cause_of w.regs) ≡ true → loses w k (Some cause) ≡ true
 cause-lost w k cause e h = ap (loses w k) (sym e) ∙ h
 
-sweepable : (version : ℕ) (units : List RigUnit) (s : Spot) (c : Counts) (w : World) (t : ℕ) → Holds version units s c w → ToSweep w (ticket w.desk t) → Sweepable s w t
+pub sweepable : (version : ℕ) (units : List RigUnit) (s : Spot) (c : Counts) (w : World) (t : ℕ) → Holds version units s c w → ToSweep w (ticket w.desk t) → Sweepable s w t
 sweepable version units (Running p) c w t h k = let z : is_clear stop.Run ≡ true = subst (λ (x : Stop). is_clear x ≡ true) h.stays.0 k.clear in absurd cc
 sweepable version units (Mismatched u x left) c w t h k = let z : is_clear stop.Mismatch ≡ true = subst (λ (x : Stop). is_clear x ≡ true) h.stays.0 k.clear in absurd cc
 sweepable version units NotData c w t h k = let z : is_clear stop.Mismatch ≡ true = subst (λ (x : Stop). is_clear x ≡ true) h.stays.0 k.clear in absurd cc
@@ -242,8 +239,8 @@ sweepable version units JobOver c w t h k = job h.stays.2.0 h.stays.2.1 h.stays.
   where
     job : (cause : Cause) → StoppedFor cause w.regs → IsJobOver cause w.regs → Sweepable JobOver w t
     job (Sir v) z i = record {
-      lost = inl (both (passed w.memory w.desk (ticket w.desk t)) ((unit w.desk (ticket w.desk t).unit).target == job_target w)
-          (both (v == job_done) (passed w.memory w.desk (ticket w.desk t) && ((unit w.desk (ticket w.desk t).unit).target == job_target w)) (cause-lost w (ticket w.desk t) (Sir v) z.is k.lost)).1).0;
+      lost = inl (and_parts (passed w.memory w.desk (ticket w.desk t)) ((unit w.desk (ticket w.desk t).unit).target == job_target w)
+          (and_parts (v == job_done) (passed w.memory w.desk (ticket w.desk t) && ((unit w.desk (ticket w.desk t).unit).target == job_target w)) (cause-lost w (ticket w.desk t) (Sir v) z.is k.lost)).1).0;
       idle = λ u e. absurd cc;
     }
     job Sto z i = let y = cause-lost w (ticket w.desk t) Sto z.is k.lost in let n : false ≡ true = y in absurd cc
@@ -276,8 +273,8 @@ block-swept w n s f target m h =
     (λ x i j. m.other x (omega arith) (omega arith)) (λ x i j. m.other x (omega arith) (omega arith)) h
 
 -- the stage of a ticket that is swept
-lost-active : (w : World) (k : Ticket) → IsLost w k → IsActive k.stage
-lost-active w k (inl e) = inl (queued-is k.stage (both (is_queued k.stage) (not (waits w.memory w.desk k)) e).0)
+pub lost-active : (w : World) (k : Ticket) → IsLost w k → IsActive k.stage
+lost-active w k (inl e) = inl (queued-is k.stage (and_parts (is_queued k.stage) (not (waits w.memory w.desk k)) e).0)
 lost-active w k (inr e) = inr (sensing-is k.stage e.0)
 
 active-start : (x : Stage) (o : Outcome) (v : ℕ) → IsActive x → IsStart x v → IsStart (stage.Ended o) v
@@ -298,7 +295,7 @@ active-bound : (x : Stage) → IsActive x → IsBound x
 active-bound x (inl e) = subst IsBound (sym e) (record { live = λ i. absurd cc; linked = λ i. absurd cc; still = λ i. absurd cc })
 active-bound x (inr e) = subst IsBound (sym e) (record { live = λ i. absurd cc; linked = λ i. absurd cc; still = λ i. absurd cc })
 
-lost-aside : (version : ℕ) (units : List RigUnit) (s : Spot) (c : Counts) (w : World) (t : ℕ) → Holds version units s c w → ToSweep w (ticket w.desk t) → IsLost w (ticket w.desk t) → Aside (word_at w.memory) (tickets_of w.desk) c t
+pub lost-aside : (version : ℕ) (units : List RigUnit) (s : Spot) (c : Counts) (w : World) (t : ℕ) → Holds version units s c w → ToSweep w (ticket w.desk t) → IsLost w (ticket w.desk t) → Aside (word_at w.memory) (tickets_of w.desk) c t
 lost-aside version units s c w t h k lost = record {
   start = λ i l u e. elim lost [
     | inl q ↦ passed-out version units s c w t h q i l u e
@@ -316,7 +313,7 @@ lost-aside version units s c w t h k lost = record {
       let z : block_of (tickets_of w.desk) x.0 ≡ (ticket w.desk t).block = sym x.1 ∙ e in
       absurd (omega (arith, x.2.some, ap (λ (b : ℕ). field_of w.memory b State) z, k.live));
   front = λ a. elim lost [
-    | inl q ↦ let n : stage.Queued ≡ stage.Sensing = sym (queued-is (ticket w.desk t).stage (both (is_queued (ticket w.desk t).stage) (not (waits w.memory w.desk (ticket w.desk t))) q).0) ∙ a.stage in absurd cc
+    | inl q ↦ let n : stage.Queued ≡ stage.Sensing = sym (queued-is (ticket w.desk t).stage (and_parts (is_queued (ticket w.desk t).stage) (not (waits w.memory w.desk (ticket w.desk t))) q).0) ∙ a.stage in absurd cc
     | inr q ↦
         let b = (h.tickets.block t (active-live ((tickets_of w.desk).stage t) (inr a.stage))).from in
         elim q.1 [ inl f ↦ absurd (omega (arith, b, sym f ∙ a.is)) | inr f ↦ absurd (omega (arith, b, sym f ∙ a.is)) ]

@@ -1,7 +1,6 @@
 -- The invariant holds in every world of a run, from the opening on.
 use Rattle.std.proofs.Common.{◌≡◌, ℕ, List, length, [], ◌∷◌, Bool, true, false, refl, sym, subst, arith, Option, Some, None}
 use Rattle.rig_types.specs.declared.commands.Command.{Command}
-use Rattle.rig_types.specs.declared.rig.Unit.{Unit as RigUnit}
 use Rattle.unit_law.specs.Request.{plain}
 use Rattle.rig_types.specs.declared.step.Line.{Line}
 use Rattle.rig_types.specs.declared.step.Step.{Step}
@@ -14,15 +13,12 @@ use Rattle.world_law.specs.Opening.{opened}
 use Rattle.world_law.specs.Runs.{Moment, IsRun, last}
 use Rattle.world_law.specs.Steps.{Does}
 use Rattle.world_law.specs.World.{BenchSetting, IsBenchSetting, World, command_at}
-use Rattle.world_law.specs.declared.reply.Decided.{Decided}
 use Rattle.world_law.specs.declared.reply.Reply.{Reply}
 use Rattle.world_law.specs.declared.reply.Reply.TheVariants as reply
 use Rattle.word_owners.specs.Answering.{AreAnswering}
 use Rattle.word_owners.specs.BenchSteps.{IsOwned, is_build}
 use Rattle.word_owners.specs.Builds.{IsOfBytes}
-use Rattle.word_owners.specs.Holds.{Spot, Holds}
 use Rattle.word_owners.specs.KeptDesks.{AreKept}
-use Rattle.word_owners.specs.Parts.{Counts}
 use Rattle.word_owners.specs.Worlds.{HasBytes, WordsAreOwned}
 use Rattle.word_owners.proofs.SelectionAnswers.{answering-room}
 use Rattle.word_owners.proofs.BenchSteps.{bench_steps_hold}
@@ -34,9 +30,9 @@ use Rattle.word_owners.proofs.Opening.{holds_opened}
 use Rattle.word_owners.proofs.Spaces.{opening_owns}
 
 -- a world that is owned, with room for tickets to come
-record Whole (g : BenchSetting) (w : World) : Type 0 where
-  owned : IsOwned g.version g.units w
-  places : AreKept w.desk
+pub record Whole (g : BenchSetting) (w : World) : Type 0 where
+  pub owned : IsOwned g.version g.units w
+  pub places : AreKept w.desk
 
 module _ (g : BenchSetting) (setting : IsBenchSetting g) (bytes : HasBytes g) where
   of-made : (made new : World) → new ≡ made → Whole g made → Whole g new
@@ -77,7 +73,7 @@ module _ (g : BenchSetting) (setting : IsBenchSetting g) (bytes : HasBytes g) wh
     places = desks_kept g w new caller s answer is may d o.places;
   }
 
-  each-step : (w new : World) (caller : ℕ) (s : Step) (answer : Reply) → Enabled g w caller s → Does g w caller s answer new → Whole g w → Whole g new
+  pub each-step : (w new : World) (caller : ℕ) (s : Step) (answer : Reply) → Enabled g w caller s → Does g w caller s answer new → Whole g w → Whole g new
   each-step w new caller (step.Build l) answer may d o = builds-of w new l (command_at g l) answer refl d o
   each-step w new caller (step.Chip word) answer may d o = other-step w new caller (step.Chip word) answer refl may d o
   each-step w new caller (step.Link t) answer may d o = other-step w new caller (step.Link t) answer refl may d o
@@ -97,7 +93,7 @@ module _ (g : BenchSetting) (setting : IsBenchSetting g) (bytes : HasBytes g) wh
   runs-whole w [] r o = o
   runs-whole w (m ∷ ms) r o = runs-whole m.after ms r.1 (each-step w m.after m.entry.caller m.entry.step m.reply r.0.enabled r.0.does o)
 
-  opening-whole : Whole g (opened g)
+  pub opening-whole : Whole g (opened g)
   opening-whole = record {
     owned = record { spot = _; counts = _; holds = holds_opened g setting.rig.few_units; answering = answering_opens g.version g.retries g.step_limit g.units setting.rig };
     places = record { depths = record { unit = λ t l. absurd cc; depth = λ u l. omega arith }; space = opening_owns g.version g.units g.retries g.autosense (length g.submitters) };

@@ -23,3 +23,9 @@ pub mod KeptDesks
 pub mod Worlds
 pub mod BufferWrites
 pub mod BufferRuns
+pub mod Callers
+pub mod Wake
+pub mod NeverFails
+pub mod Footprints
+pub mod Vectors
+pub mod Touches

@@ -3,6 +3,7 @@
 ghost use Rattle.word_owners.specs.BuiltBlocks.{BlockBuilt};
 ghost use Rattle.word_owners.specs.Builds.{BuildAdds, BuildsHold};
 ghost use Rattle.word_owners.specs.BuiltTickets.{TicketsBuilt};
+ghost use Rattle.word_owners.specs.Callers.{CallersKept};
 ghost use Rattle.word_owners.specs.FreePlaces.{PlacesFree};
 ghost use Rattle.word_owners.specs.KeptDesks.{DesksKept};
 ghost use Rattle.word_owners.specs.Spaces.{BuffersOwned, BuildOwns, FreeOwns, OpeningOwns, StaysOwned};
@@ -52,4 +53,10 @@ pub fn builds_hold()
 /// tickets own their parts of the buffer region.
 pub fn desks_are_kept()
     ensures { DesksKept }
+{}
+
+/// Each step keeps the counts of due signals, one for each caller, and the line of each live ticket is one of a submitter: so a
+/// signal is never owed to a caller that isn't there.
+pub fn callers_are_kept()
+    ensures { CallersKept }
 {}

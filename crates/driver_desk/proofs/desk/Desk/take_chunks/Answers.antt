@@ -13,7 +13,7 @@ take_all-requires-clause-lens c =
 
 pub invariant_of-self : goal.invariant_of-self
 invariant_of-self c =
-    (c.self.invariant.0, c.self.invariant.1, kept_or _ _ _ _ _ _ _ _ _ _ _ c.take_all.result c.self.invariant.2 c.take_all.ensures.taken c.take_all.ensures.out)
+    ((c.self.invariant.0.0, c.self.invariant.0.1, kept_or _ _ _ _ _ _ _ _ _ _ _ c.take_all.result c.self.invariant.0.2 c.take_all.ensures.taken c.take_all.ensures.out), c.self.invariant.1, c.self.invariant.2)
 
 pub returns-clause-taken : goal.returns-clause-taken
 returns-clause-taken c =
@@ -31,4 +31,4 @@ returns-clause-taken c =
     } in
     subst (λ (d : DeskState). TakenOr seen d c.take_all.new.self c.args.r.now.segments c.take_all.result) c.self.view_is
     (subst (λ (ns : List ℕ). TakenOr seen seen c.take_all.new.self ns c.take_all.result) c.as_slice.ensures
-    (chunks_or seen c.take_all.new.self c.as_slice.result.now c.take_all.result c.self.invariant.2.out c.take_all.ensures.taken c.take_all.ensures.out))
+    (chunks_or seen c.take_all.new.self c.as_slice.result.now c.take_all.result c.self.invariant.0.2.out c.take_all.ensures.taken c.take_all.ensures.out))

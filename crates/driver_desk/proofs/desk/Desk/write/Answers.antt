@@ -11,5 +11,5 @@ write_ticket-requires-clause-inside c =
     let there : c.args.t < length c.self.inside.tickets.items = search rules in
     let is = seen c.args.self.now c.self.inside.tickets.items c.args.t k (ap (λ (d : DeskState). d.tickets) c.self.view_is) there c.index-k.ensures in
     let live : lives k ≡ true = subst (λ (x : Ticket). lives x ≡ true) is c.requires.lives in
-    let w = writable _ _ _ _ _ _ _ _ _ _ _ _ _ c.args.t k c.self.invariant there c.index-k.ensures live in
+    let w = writable _ _ _ _ _ _ _ _ _ _ _ _ _ c.args.t k c.self.invariant.0 there c.index-k.ensures live in
     w.inside

@@ -1,0 +1,4 @@
+use Rattle.bench_pool.proofs.reaper.reaper_worker.Goals as goal
+
+pub returns-in-Err-clause-fault : goal.returns-in-Err-clause-fault
+returns-in-Err-clause-fault g c = (c.ended.ensures _ c.in-Err.ensures.end).1

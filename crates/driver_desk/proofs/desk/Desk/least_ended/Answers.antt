@@ -1,0 +1,10 @@
+use Rattle.std.proofs.Common.{◌≡◌, refl, subst}
+use Rattle.desk_law.specs.Desk.{DeskState}
+use Rattle.driver_desk.specs.Stages.{is_ended, least_ended}
+use Rattle.driver_desk.proofs.StageSets.{least_is}
+use Rattle.driver_desk.proofs.desk.Desk.least_ended.Goals as goal
+
+pub returns : goal.returns
+returns c =
+    subst (λ (d : DeskState). c.least.result ≡ least_ended d) c.self.view_is
+    (least_is is_ended c.self.inside.stages.ended c.self.inside.tickets.items c.least.result refl c.self.invariant.1.ended c.least.ensures)

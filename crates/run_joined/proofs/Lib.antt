@@ -1,0 +1,4 @@
+pub mod Told
+pub mod DeskSteps
+pub mod DoneSteps
+pub mod ChipSteps

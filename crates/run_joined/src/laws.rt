@@ -1,0 +1,28 @@
+//! Laws of runs and moves. Each function does nothing; its contract is the law.
+
+ghost use Rattle.run_joined.specs.DeskLives.{DeskStepsMove, DoneStepsMove, ChipLeavesDesk};
+ghost use Rattle.run_joined.specs.Told.{HistoriesTie, FreedHistories, FreedReportsFit};
+
+/// Where a run's changes say of a ticket what the moves say, the run's history of it is that of the moves; once it is freed,
+/// this is its history at its Free, and its report fits its unit's log with it.
+pub fn histories_tie()
+    ensures tied { HistoriesTie }
+    ensures freed { FreedHistories }
+    ensures fits { FreedReportsFit }
+{}
+
+/// Each step of the driver on the desk is a step of its ticket, and the desk goes on to have each ticket's stage, tag, unit,
+/// tries and outcome.
+pub fn desk_steps_move()
+    ensures { DeskStepsMove }
+{}
+
+/// The chip's steps, calls of the bus, pointers that it writes and marks leave what the desk has of each ticket.
+pub fn chip_leaves_desk()
+    ensures { ChipLeavesDesk }
+{}
+
+/// TakeDone, where the words of the ticket's block tell what its life says, and Sweep are each a step of the ticket.
+pub fn done_steps_move()
+    ensures { DoneStepsMove }
+{}

@@ -1,0 +1,6 @@
+//! Runs of the bench beside lists of moves of tickets and targets: definitions, with their laws. Nothing here runs.
+#![tactic(auto)]
+
+mod laws;
+
+pub use laws::{chip_leaves_desk, desk_steps_move, done_steps_move, histories_tie};

@@ -1,0 +1,6 @@
+pub mod ListWorlds
+pub mod Others
+pub mod Sizes
+pub mod Places
+pub mod Answered
+pub mod Refusals

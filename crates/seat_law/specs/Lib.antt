@@ -1,0 +1,4 @@
+pub mod Worlds
+pub mod Standing
+pub mod Outcomes
+pub mod Laws
