@@ -94,15 +94,14 @@ pub accepted_all : (g h : BenchSetting) (m new_m : List ℕ) (d new : DeskState)
     → Builds d m l r t new new_m → length new_m ≡ length m → l.number ≡ length (slice_index_or lss l.submitter []) → l.number < length (commands_of g l.submitter)
     → then_first ≤ first_live → then_first ≤ t → new_lss ≡ one_accepted lss l t → then_rooms ≡ line_rooms → then_count ≡ report_count → then_count + (live_count + 1) ≤ then_room
     → IsHeld h new_m new new_lss (live_count + 1) refused_total then_first × HasRooms h then_rooms answer_count answer_room (then_count + (live_count + 1)) then_room
-accepted_all g h m new_m d new lss new_lss line_rooms then_rooms live_count refused_total first_live then_first t answer_count answer_room report_count report_room then_count then_room l r held rooms same b size next there a c e f k room =
-    (
-      subst (λ (x : BenchSetting). IsHeld x new_m new new_lss (live_count + 1) refused_total then_first) (sym same)
+accepted_all g h m new_m d new lss new_lss line_rooms then_rooms live_count refused_total first_live then_first t answer_count answer_room report_count report_room then_count then_room l r held rooms same b size next there a c e f k room = (
+  subst (λ (x : BenchSetting). IsHeld x new_m new new_lss (live_count + 1) refused_total then_first) (sym same)
       (subst (λ (xs : List (List Decided)). IsHeld g new_m new xs (live_count + 1) refused_total then_first) (sym e)
       (accepted_held g m new_m d new lss live_count refused_total first_live then_first t l r held b size next there a c)),
-      subst (λ (x : BenchSetting). HasRooms x then_rooms answer_count answer_room (then_count + (live_count + 1)) then_room) (sym same)
+  subst (λ (x : BenchSetting). HasRooms x then_rooms answer_count answer_room (then_count + (live_count + 1)) then_room) (sym same)
       (subst (λ (n : ℕ). HasRooms g then_rooms answer_count answer_room (n + (live_count + 1)) then_room) (sym k)
       (accepted_rooms g line_rooms then_rooms answer_count answer_room report_count report_room live_count then_room rooms f (omega (arith, room, k)))),
-    )
+)
 
 -- ---- the world then
 

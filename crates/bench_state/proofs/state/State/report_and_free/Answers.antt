@@ -15,7 +15,7 @@ invariant_of-self c =
     subst (λ (b : BenchState). (ticket b.world.desk c.args.t).stage ≡ Unlinked) (sym c.self.view_is) c.requires in (
       freed_held _ _ _ _ _ _ _ _ c.args.t c.self.invariant.0 unlinked c.free-report.ensures.desk,
       freed_rooms_so _ _ _ _ _ _ _ c.self.inside.reports.items c.push_reserved.new.self.items c.free-report.result (one_lives c.self.inside.bus.tickets.desk c.args.t _ c.self.invariant.0.live unlinked)
-      c.self.invariant.1 c.push_reserved.ensures.items c.push_reserved.ensures.capacity,
+          c.self.invariant.1 c.push_reserved.ensures.items c.push_reserved.ensures.capacity,
     )
 
 -- src/freeing.rt:48:5
