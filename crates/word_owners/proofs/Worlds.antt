@@ -19,7 +19,7 @@ use Rattle.word_owners.specs.Answering.{AreAnswering}
 use Rattle.word_owners.specs.BenchSteps.{IsOwned, is_build}
 use Rattle.word_owners.specs.Builds.{IsOfBytes}
 use Rattle.word_owners.specs.KeptDesks.{AreKept}
-use Rattle.word_owners.specs.Worlds.{HasBytes, WordsAreOwned}
+use Rattle.word_owners.specs.Worlds.{HasBytes, WordsAreOwned, DepthsAreKept}
 use Rattle.word_owners.proofs.SelectionAnswers.{answering-room}
 use Rattle.word_owners.proofs.BenchSteps.{bench_steps_hold}
 use Rattle.word_owners.proofs.Builds.{builds_hold}
@@ -99,5 +99,12 @@ module _ (g : BenchSetting) (setting : IsBenchSetting g) (bytes : HasBytes g) wh
     places = record { depths = record { unit = λ t l. absurd cc; depth = λ u l. omega arith }; space = opening_owns g.version g.units g.retries g.autosense (length g.submitters) };
   }
 
+-- every world of a run from the opening on
+pub whole_at : (g : BenchSetting) → IsBenchSetting g → HasBytes g → (ms : List Moment) → IsRun g (opened g) ms → Whole g (last (opened g) ms)
+whole_at g setting bytes ms r = runs-whole g setting bytes (opened g) ms r (opening-whole g setting bytes)
+
 pub words_are_owned : WordsAreOwned
-words_are_owned g setting bytes ms r = (runs-whole g setting bytes (opened g) ms r (opening-whole g setting bytes)).owned
+words_are_owned g setting bytes ms r = (whole_at g setting bytes ms r).owned
+
+pub depths_are_kept : DepthsAreKept
+depths_are_kept g setting bytes ms r = (whole_at g setting bytes ms r).places

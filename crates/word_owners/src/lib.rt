@@ -15,7 +15,9 @@ pub use laws::{
     opening_holds, queues_hold, resets_hold, restarts_hold, rings_are_read, senses_hold,
     sweeps_hold, takes_hold, tickets_are_added, words_are_owned,
 };
-pub use run_laws::{data_are_moved, script_writes_only, tests_never_fail, vectors_are_told, wake};
+pub use run_laws::{
+    data_are_moved, depths_are_kept, script_writes_only, tests_never_fail, vectors_are_told, wake,
+};
 pub use space_laws::{
     block_is_built, builds_add, builds_hold, callers_are_kept, desks_are_kept, places_are_free,
     space_is_owned, tickets_are_built,

@@ -5,6 +5,7 @@ ghost use Rattle.word_owners.specs.NeverFails.{TestsNeverFail};
 ghost use Rattle.word_owners.specs.Touches.{DataAreMoved};
 ghost use Rattle.word_owners.specs.Vectors.{VectorsAreTold};
 ghost use Rattle.word_owners.specs.Wake.{RunsWake};
+ghost use Rattle.word_owners.specs.Worlds.{DepthsAreKept};
 
 /// The wake rule, in every world of every run over a rig, with units that break the rules, aborts and resets: where FRONT
 /// isn't idle, or the start slot at RINGP isn't, a signal is due of some caller, or SIGP is set, or the chip stands in a
@@ -42,4 +43,10 @@ pub fn vectors_are_told()
 /// its block from its Sense step on, and no other target than that of its unit is connected.
 pub fn data_are_moved()
     ensures { DataAreMoved }
+{}
+
+/// In every world of every run at most as many tickets of a unit live as its depth says, and each live ticket's buffer lies in
+/// chunks of the buffer region that no other live ticket has.
+pub fn depths_are_kept()
+    ensures { DepthsAreKept }
 {}
