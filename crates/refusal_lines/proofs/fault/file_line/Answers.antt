@@ -1,0 +1,5 @@
+use Rattle.std.proofs.Common.{append_assoc}
+use Rattle.refusal_lines.proofs.fault.file_line.Goals as goal
+
+pub returns : goal.returns
+returns c = rw c.in_ok-line.ensures.ok (simp append_assoc)
