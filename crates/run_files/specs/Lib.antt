@@ -1,0 +1,4 @@
+pub mod Shelves
+pub mod Reading
+pub mod Loading
+pub mod Laws
