@@ -1,20 +1,24 @@
 -- The room that is made for all units suffices.
-use Rattle.std.proofs.Common.{◌≡◌, ◌≢◌, ℕ, zero, suc, ◌+◌, ◌≤◌, ◌<◌, List, [], ◌∷◌, length, map, slice_index_or, refl, ap, arith, sym, ◌∙◌, Option, Some, None, ◌⊎◌, inl, inr}
+use Rattle.std.proofs.Common.{◌≡◌, ◌≢◌, ℕ, zero, suc, ◌+◌, ◌≤◌, ◌<◌, nat_lt, Bool, true, false, List, [], ◌∷◌, length, map, slice_index_or, slice_set, refl, ap, arith, sym, ◌∙◌, Option, Some, None, ◌⊎◌, inl, inr}
 use Rattle.std.specs.Prelude.{fold}
 use Rattle.std.specs.List.{range_with_len}
-use Rattle.std.proofs.lemmas.List.{length-set, get_or-set_same}
+use Rattle.std.proofs.lemmas.Bool.Decides.{nat_tests}
+use Rattle.std.proofs.lemmas.List.{length-set, length-map, get_or-set_same, set_past}
+use Rattle.rig_types.specs.declared.rig.Unit.{Unit as RigUnit}
 use Rattle.unit_law.proofs.Views.{same_or_not}
-use Rattle.target_law.specs.Target.{LogicalUnit, Target, unit_at}
+use Rattle.target_law.specs.Target.{LogicalUnit, Target, unit_at, target_reset}
 use Rattle.target_law.specs.Devices.{DeviceState, room_at, reserved_for, device_reserved}
 use Rattle.target_law.proofs.Rooms.{device_reserved-target, device_reserved-here, device_reserved-other}
-use Rattle.bus_law.specs.Bus.{no_device, device_at}
+use Rattle.bus_law.specs.Bus.{BusState, no_device, device_at, device_reset, bus_reset}
 use Rattle.bus_law.specs.Rooms.{reserve_of, with_room_for, with_room_of, with_room, with_room_at, with_all_room}
 use Rattle.ticket_fate.proofs.Reached.{all-kept}
 use Rattle.std.proofs.lemmas.Option.{same_Some}
 use Rattle.ticket_room.specs.Rooms.{HasLog}
 use Rattle.ticket_room.proofs.Reserves.{reserves-suffice}
 use Rattle.bus_events.specs.Targets.{targets}
-use Rattle.bus_events.specs.BusResets.{RoomIsMade}
+use Rattle.ticket_fate.specs.Tickets.{Plan, Ticket}
+use Rattle.bus_events.specs.BusResets.{HasPlaces, RoomIsMade}
+use Rattle.bus_events.proofs.KeptRooms.{where-rooms}
 use Rattle.bus_events.proofs.CallsMove.{unit-stands}
 
 funext : {A B : Type 0} (f h : A → B) → ((x : A) → f x ≡ h x) → f ≡ h
@@ -99,6 +103,63 @@ device-room [] i lun u k e l less = absurd (omega (arith, k))
 device-room (d ∷ ds) zero lun u k e l less = among lun u 0 8 d e (omega (arith, l, less)) (omega arith) (omega (arith, less))
 device-room (d ∷ ds) (suc i) lun u k e l less = device-room ds i lun u (omega (arith, k)) e l less
 
+-- ---- the devices with room at one target
+all-length : (luns : List ℕ) (d : DeviceState) → length (fold with_room_of d luns).rooms ≡ length d.rooms
+all-length [] d = refl
+all-length (x ∷ xs) d = all-length xs (with_room_of d x) ∙ of-length d x
+
+set-stays : {A : Type 0} (f : DeviceState → A) (ds : List DeviceState) (i : ℕ) (d : DeviceState) → f d ≡ f (slice_index_or ds i no_device) → (k : ℕ) → f (slice_index_or (slice_set ds i d) k no_device) ≡ f (slice_index_or ds k no_device)
+set-stays f [] i d e k = refl
+set-stays f (x ∷ xs) zero d e zero = e
+set-stays f (x ∷ xs) zero d e (suc k) = refl
+set-stays f (x ∷ xs) (suc i) d e zero = refl
+set-stays f (x ∷ xs) (suc i) d e (suc k) = set-stays f xs i d e k
+
+targets-stay : (b : BusState) (i : ℕ) → targets (with_room_at b i) ≡ targets b
+targets-stay b i = funext (targets (with_room_at b i)) (targets b) (λ k. set-stays (λ (d : DeviceState). d.target) b.devices i (with_room (device_at b i)) (all-target (range_with_len 0 8) (device_at b i)) k)
+
+set-grows : (ds : List DeviceState) (i : ℕ) (d : DeviceState) (lun : ℕ) → room_at (slice_index_or ds i no_device) lun ≤ room_at d lun → (k : ℕ) → room_at (slice_index_or ds k no_device) lun ≤ room_at (slice_index_or (slice_set ds i d) k no_device) lun
+set-grows [] i d lun e k = omega arith
+set-grows (x ∷ xs) zero d lun e zero = e
+set-grows (x ∷ xs) zero d lun e (suc k) = omega arith
+set-grows (x ∷ xs) (suc i) d lun e zero = omega arith
+set-grows (x ∷ xs) (suc i) d lun e (suc k) = set-grows xs i d lun e k
+
+below-or : (x n : ℕ) → (x < n) ⊎ (n ≤ x)
+below-or x n = by (nat_lt x n) refl
+  where
+    by : (b : Bool) → nat_lt x n ≡ b → (x < n) ⊎ (n ≤ x)
+    by true e = inl (grind (arith, nat_tests))
+    by false e = inr (grind (arith, nat_tests))
+
+no-less : (b : BusState) (i : ℕ) (lun : ℕ) → lun < 8 → ((k : ℕ) → k < length b.devices → length (device_at b k).rooms ≡ 8) → (k : ℕ) → room_at (device_at b k) lun ≤ room_at (device_at (with_room_at b i) k) lun
+no-less b i lun l places k = by (below-or i (length b.devices))
+  where
+    by : (i < length b.devices) ⊎ (length b.devices ≤ i) → room_at (device_at b k) lun ≤ room_at (device_at (with_room_at b i) k) lun
+    by (inl a) = let size = places i a in set-grows b.devices i (with_room (device_at b i)) lun (all-grow (range_with_len 0 8) (device_at b i) lun (omega (arith, l, size))) k
+    by (inr a) = let same = ap (λ ds. room_at (slice_index_or ds k no_device) lun) (set_past b.devices i (with_room (device_at b i)) a) in omega (arith, same)
+
+map-rooms : (f : DeviceState → DeviceState) → ((d : DeviceState) → length (f d).rooms ≡ length d.rooms) → (ds : List DeviceState) (i : ℕ) → i < length ds → length (slice_index_or (map f ds) i no_device).rooms ≡ length (slice_index_or ds i no_device).rooms
+map-rooms f e [] i l = absurd (omega (arith, l))
+map-rooms f e (d ∷ ds) zero l = e d
+map-rooms f e (d ∷ ds) (suc i) l = map-rooms f e ds i (omega (arith, l))
+
+places-at : (g : Plan) (units : List RigUnit) (b : BusState) → HasPlaces g units b → (i : ℕ) → HasPlaces g units (with_room_at b i)
+places-at g units b h i = record {
+  rooms = λ k l.
+      set-stays (λ (d : DeviceState). length d.rooms) b.devices i (with_room (device_at b i)) (all-length (range_with_len 0 8) (device_at b i)) k
+      ∙ h.rooms k (omega (arith, l, length-set b.devices i (with_room (device_at b i))));
+  luns = h.luns;
+}
+
+places-by : (g : Plan) (units : List RigUnit) (b : BusState) (f : DeviceState → DeviceState) → ((d : DeviceState) → length (f d).rooms ≡ length d.rooms) → (new : BusState) → new.devices ≡ map f b.devices → HasPlaces g units b → HasPlaces g units new
+places-by g units b f e new made h = record {
+  rooms = λ k l.
+      let m : k < length b.devices = omega (arith, l, ap length made, length-map b.devices f) in
+      ap (λ ds. length (slice_index_or ds k no_device).rooms) made ∙ map-rooms f e b.devices k m ∙ h.rooms k m;
+  luns = h.luns;
+}
+
 pub room-is-made : RoomIsMade
 room-is-made = record {
   all = λ g units b ks built j places live.
@@ -130,4 +191,15 @@ room-is-made = record {
       let reserve = ap reserve_of rig in
       let same = ap (λ (y : DeviceState). room_at y lun) at in
       reserves-suffice.reserved g n built ks u.log (room_at (device_at (with_room_at b i) (g.units n).target) lun) live (omega (arith, room, reserve, same));
+  same = targets-stay;
+  grows = λ g units b ks built i spare h s n less u there.
+      let lun = (g.units n).lun in
+      let old : HasLog g n (targets b) u = ap (λ (f : ℕ → Target). unit_at (f (g.units n).target).units lun) (sym (targets-stay b i)) ∙ there in
+      let more = no-less b i lun (h.luns n less) h.rooms (g.units n).target in
+      omega (arith, s n less u old, more);
+  places = λ g units b h. (
+    places-at g units b h,
+    places-by g units b with_room (λ d. all-length (range_with_len 0 8) d) (with_all_room b) refl h,
+    places-by g units b device_reset (λ d. ap length (where-rooms d (target_reset d.target))) (bus_reset b) refl h,
+  );
 }

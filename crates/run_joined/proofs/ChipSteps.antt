@@ -11,7 +11,8 @@ use Rattle.target_law.specs.declared.task_phase.TaskPhase.{TaskPhase}
 use Rattle.target_law.specs.declared.task_phase.TaskPhase.TheVariants.{ToChoose, MessageOut, DataIn, DataOut, Status, MessageIn}
 use Rattle.target_law.specs.Session.{Task, Session}
 use Rattle.target_law.specs.Bytes.{Connection}
-use Rattle.target_law.specs.Target.{TaskConnected, Target, session}
+use Rattle.target_law.specs.Target as connection_state
+use Rattle.target_law.specs.Target.{ConnectionState, BusFree, TakingCommand, TaskConnected, RogueConnected, Target, session}
 use Rattle.desk_law.specs.declared.stage.Stage.{Stage}
 use Rattle.desk_law.specs.declared.stage.Stage.TheVariants as stage
 use Rattle.desk_law.specs.declared.ticket.Ticket.{Ticket as DeskTicket}
@@ -22,13 +23,19 @@ use Rattle.ticket_fate.specs.Moves.{CompletesTicket, parts_ticket, target_of, Ti
 use Rattle.ticket_fate.specs.Kept.{AllKept}
 use Rattle.ticket_fate.proofs.TaskLists.{away-at}
 use Rattle.ticket_fate.proofs.Reached.{all-kept}
-use Rattle.run_joined.specs.DeskLives.{IsStage, outcome_of, IsKept, IsChipStep, LeavesDesk, ChipLeavesDesk}
+use Rattle.ticket_fate.specs.Histories.{progress_of}
+use Rattle.bus_law.specs.Bus.{BusState}
+use Rattle.bus_events.specs.Targets.{targets}
+use Rattle.bus_events.specs.BusResets.{parted_by, parted_tickets, after_bus_reset}
+use Rattle.desk_law.specs.Desk.{DeskState}
+use Rattle.run_joined.specs.DeskLives.{IsStage, outcome_of, IsCounted, IsKept, DeskJoined, IsChipStep, LeavesDesk, ChipLeavesDesk}
 
 -- a life that the desk sees as the one before
 record LifeKept (l m : Life) : Type 0 where
   stage_stays : (s : Stage) → IsStage l s → IsStage m s
   unbuilt : l ≡ Unbuilt → m ≡ Unbuilt
   outcome : outcome_of m ≡ outcome_of l
+  progress : progress_of m ≡ progress_of l
 
 record Kept (k j : Ticket) : Type 0 where
   life : LifeKept k.life j.life
@@ -36,56 +43,56 @@ record Kept (k j : Ticket) : Type 0 where
   tries : j.tries ≡ k.tries
 
 same-life : (l : Life) → LifeKept l l
-same-life l = record { stage_stays = λ s e. e; unbuilt = λ e. e; outcome = refl }
+same-life l = record { stage_stays = λ s e. e; unbuilt = λ e. e; outcome = refl; progress = refl }
 
 -- between two lives
 between : (l m : Life) → LifeKept l m → (k : Ticket) → k.life ≡ l → LifeKept k.life m
 between l m h k e = subst (λ z. LifeKept z m) (sym e) h
 
 both-lives : (l m n : Life) → LifeKept l m → LifeKept m n → LifeKept l n
-both-lives l m n a b = record { stage_stays = λ s e. b.stage_stays s (a.stage_stays s e); unbuilt = λ e. b.unbuilt (a.unbuilt e); outcome = b.outcome ∙ a.outcome }
+both-lives l m n a b = record { stage_stays = λ s e. b.stage_stays s (a.stage_stays s e); unbuilt = λ e. b.unbuilt (a.unbuilt e); outcome = b.outcome ∙ a.outcome; progress = b.progress ∙ a.progress }
 
 both : (k j i : Ticket) → Kept k j → Kept j i → Kept k i
 both k j i a b = record { life = both-lives k.life j.life i.life a.life b.life; tag = b.tag ∙ a.tag; tries = b.tries ∙ a.tries }
 
 waits-selected : LifeKept Waits Selected
-waits-selected = record { stage_stays = λ s e. e; unbuilt = λ e. cc; outcome = refl }
+waits-selected = record { stage_stays = λ s e. e; unbuilt = λ e. cc; outcome = refl; progress = refl }
 
 waits-none : LifeKept Waits (Finished NoTarget)
-waits-none = record { stage_stays = λ s e. e; unbuilt = λ e. cc; outcome = refl }
+waits-none = record { stage_stays = λ s e. e; unbuilt = λ e. cc; outcome = refl; progress = refl }
 
 waits-cut : LifeKept Waits (Finished Cut)
-waits-cut = record { stage_stays = λ s e. e; unbuilt = λ e. cc; outcome = refl }
+waits-cut = record { stage_stays = λ s e. e; unbuilt = λ e. cc; outcome = refl; progress = refl }
 
 asks-starts : LifeKept Asks AskStarts
-asks-starts = record { stage_stays = λ s e. e; unbuilt = λ e. cc; outcome = refl }
+asks-starts = record { stage_stays = λ s e. e; unbuilt = λ e. cc; outcome = refl; progress = refl }
 
 waits-rogue : LifeKept Waits AtRogue
-waits-rogue = record { stage_stays = λ s e. inl (let f : stage.Queued ≡ s = same_Some stage.Queued s e in sym f); unbuilt = λ e. cc; outcome = refl }
+waits-rogue = record { stage_stays = λ s e. inl (let f : stage.Queued ≡ s = same_Some stage.Queued s e in sym f); unbuilt = λ e. cc; outcome = refl; progress = refl }
 
 connected-away : LifeKept Connected Away
-connected-away = record { stage_stays = λ s e. e; unbuilt = λ e. cc; outcome = refl }
+connected-away = record { stage_stays = λ s e. e; unbuilt = λ e. cc; outcome = refl; progress = refl }
 
 away-connected : LifeKept Away Connected
-away-connected = record { stage_stays = λ s e. e; unbuilt = λ e. cc; outcome = refl }
+away-connected = record { stage_stays = λ s e. e; unbuilt = λ e. cc; outcome = refl; progress = refl }
 
 connected-cut : LifeKept Connected (Finished Cut)
-connected-cut = record { stage_stays = λ s e. e; unbuilt = λ e. cc; outcome = refl }
+connected-cut = record { stage_stays = λ s e. e; unbuilt = λ e. cc; outcome = refl; progress = refl }
 
 connected-done : LifeKept Connected (Finished Done)
-connected-done = record { stage_stays = λ s e. e; unbuilt = λ e. cc; outcome = refl }
+connected-done = record { stage_stays = λ s e. e; unbuilt = λ e. cc; outcome = refl; progress = refl }
 
 connected-rejected : (st : StatusByte) → LifeKept Connected (Rejected st)
-connected-rejected st = record { stage_stays = λ s e. e; unbuilt = λ e. cc; outcome = refl }
+connected-rejected st = record { stage_stays = λ s e. e; unbuilt = λ e. cc; outcome = refl; progress = refl }
 
 selected-connected : LifeKept Selected Connected
-selected-connected = record { stage_stays = λ s e. e; unbuilt = λ e. cc; outcome = refl }
+selected-connected = record { stage_stays = λ s e. e; unbuilt = λ e. cc; outcome = refl; progress = refl }
 
 ask-connected-asked : LifeKept AskConnected Asked
-ask-connected-asked = record { stage_stays = λ s e. e; unbuilt = λ e. cc; outcome = refl }
+ask-connected-asked = record { stage_stays = λ s e. e; unbuilt = λ e. cc; outcome = refl; progress = refl }
 
 ask-starts-connected : LifeKept AskStarts AskConnected
-ask-starts-connected = record { stage_stays = λ s e. e; unbuilt = λ e. cc; outcome = refl }
+ask-starts-connected = record { stage_stays = λ s e. e; unbuilt = λ e. cc; outcome = refl; progress = refl }
 
 -- a reset
 lost-stage : (b : ResetCause) (l : Life) (s : Stage) → IsStage l s → IsStage (lost_life b l) s
@@ -101,8 +108,13 @@ lost-outcome ByBus Asks = refl
 lost-outcome ByDevice Asks = refl
 lost-outcome b l = refl
 
+lost-progress : (b : ResetCause) (l : Life) → progress_of (lost_life b l) ≡ progress_of l
+lost-progress ByBus Asks = refl
+lost-progress ByDevice Asks = refl
+lost-progress b l = refl
+
 reset-kept : (r : Bool) (b : ResetCause) (ends : ℕ) (k : Ticket) → Kept k (reset_ticket r b ends k)
-reset-kept true b ends k = record { life = record { stage_stays = lost-stage b k.life; unbuilt = lost-unbuilt b k.life; outcome = lost-outcome b k.life }; tag = refl; tries = refl }
+reset-kept true b ends k = record { life = record { stage_stays = lost-stage b k.life; unbuilt = lost-unbuilt b k.life; outcome = lost-outcome b k.life; progress = lost-progress b k.life }; tag = refl; tries = refl }
 reset-kept false b ends k = record { life = same-life k.life; tag = refl; tries = refl }
 
 sent-kept : (sh : TaskPhase) (at b : ℕ) (k : Ticket) (x : Task) → Kept k (ticket_sent sh at b k x)
@@ -189,6 +201,7 @@ desk-kept p t x k j f h = record {
   unit_is = h.unit_is;
   tries_are = h.tries_are ∙ sym f.tries;
   outcome_is = h.outcome_is ∙ sym f.life.outcome;
+  counted_is = subst (λ q. IsCounted q j.tries) (sym f.life.progress) (subst (IsCounted (progress_of k.life)) (sym f.tries) h.counted_is);
 }
 
 pub chip-leaves-desk : ChipLeavesDesk
@@ -198,3 +211,30 @@ chip-leaves-desk p count ks ts ns us d r m c j =
       unbuilt = λ x l. (f x).life.unbuilt (j.unbuilt x l);
       each = λ t l. desk-kept p t (ticket d t) (ks t) (ns t) (f t) (j.each t l);
     }
+
+-- ---- the reset of the bus leaves it too
+module _ (p : Plan) (count : ℕ) (b : BusState) (ks : ℕ → Ticket) (h : AllKept p count ks (targets b)) where
+  parted-kept : (i : ℕ) (l : ConnectionState) → (targets b i).link ≡ l → AllLeft p count ks (targets b) h (parted_tickets l ks)
+  parted-kept i BusFree e = unchanged p count ks (targets b) h
+  parted-kept i (connection_state.Selected heard) e = unchanged p count ks (targets b) h
+  parted-kept i (TakingCommand n taken) e = unchanged p count ks (targets b) h
+  parted-kept i (RogueConnected s n) e = unchanged p count ks (targets b) h
+  parted-kept i (TaskConnected c) e = by c.task.senses refl
+    where
+      by : (s : Bool) → c.task.senses ≡ s → AllLeft p count ks (targets b) h (parted_by s ks c)
+      by true f = unchanged p count ks (targets b) h
+      by false f =
+          one p count ks (targets b) h c.task.ticket (parts_ticket ks c)
+          (record { life = between Connected Away connected-away (ks c.task.ticket) (work p count ks (targets b) h i c e false f).life; tag = refl; tries = refl })
+
+  bus-reset-kept : AllLeft p count ks (targets b) h (after_bus_reset p b ks)
+  bus-reset-kept x =
+      let i = target_of p x in
+      both (ks x) (parted_tickets (targets b i).link ks x) (after_bus_reset p b ks x) (parted-kept i (targets b i).link refl x)
+      (reset-kept (nat_eq i i) ByBus (tally x (log_of p (targets b i) x)).ends (parted_tickets (targets b i).link ks x))
+
+  pub bus-reset-leaves-desk : (d : DeskState) → DeskJoined p d ks → DeskJoined p d (after_bus_reset p b ks)
+  bus-reset-leaves-desk d j = record {
+    unbuilt = λ x l. (bus-reset-kept x).life.unbuilt (j.unbuilt x l);
+    each = λ t l. desk-kept p t (ticket d t) (ks t) (after_bus_reset p b ks t) (bus-reset-kept t) (j.each t l);
+  }

@@ -16,7 +16,8 @@ use Rattle.desk_law.specs.Calls.{links, unlinks, queues, senses, Frees}
 use Rattle.desk_law.specs.Building.{new_ticket, Builds}
 use Rattle.ticket_fate.specs.Tickets.{Plan, Life, Unbuilt, Built, Linked, ToRequeue, Checked, AtRogue, Ended, Unlinked, Freed, Ticket, with_life, built_ticket, queued_ticket, asking_ticket, freed_ticket, rogue_ticket}
 use Rattle.ticket_fate.specs.Moves as step
-use Rattle.run_joined.specs.DeskLives.{IsStage, outcome_of, IsKept, DeskJoined, StepsTo, DeskStepsMove}
+use Rattle.ticket_fate.specs.Histories.{progress_of}
+use Rattle.run_joined.specs.DeskLives.{IsStage, outcome_of, IsCounted, IsKept, DeskJoined, StepsTo, DeskStepsMove}
 
 -- ---- the life of a ticket in a stage
 only-built : (l : Life) → IsStage l stage.Built → l ≡ Built
@@ -91,6 +92,9 @@ module _ (p : Plan) (d : DeskState) (ks : ℕ → Ticket) (j : DeskJoined p d ks
     here : IsKept p t (ticket d t) (ks t)
     here = j.each t l
 
+    counted-at : (a : Life) → (ks t).life ≡ a → IsCounted (progress_of a) (ks t).tries
+    counted-at a e = subst (λ z. IsCounted (progress_of z) (ks t).tries) e here.counted_is
+
     link : (ticket d t).stage ≡ stage.Built → StepsTo p t ks (links d t)
     link e =
         let life = only-built (ks t).life (subst (IsStage (ks t).life) e here.stage_is) in
@@ -103,18 +107,20 @@ module _ (p : Plan) (d : DeskState) (ks : ℕ → Ticket) (j : DeskJoined p d ks
             unit_is = here.unit_is;
             tries_are = here.tries_are;
             outcome_is = here.outcome_is ∙ ap outcome_of life;
+            counted_is = counted-at Built life;
           });
         }
 
     -- the desk's ticket is queued once more
-    queued-desk : (n : Ticket) → n.tag ≡ (ks t).tag → n.tries ≡ (ks t).tries + 1 → IsStage n.life stage.Queued → outcome_of n.life ≡ None → outcome_of (ks t).life ≡ None → DeskJoined p (queues d t) (with_at ks t n)
-    queued-desk n tag tries is none was =
+    queued-desk : (n : Ticket) → n.tag ≡ (ks t).tag → n.tries ≡ (ks t).tries + 1 → IsStage n.life stage.Queued → outcome_of n.life ≡ None → outcome_of (ks t).life ≡ None → IsCounted (progress_of n.life) n.tries → DeskJoined p (queues d t) (with_at ks t n)
+    queued-desk n tag tries is none was counted =
         replaced (queues d t) t (record (ticket d t) { stage = stage.Queued; tries = (ticket d t).tries + 1 }) n l refl (record {
           stage_is = is;
           tag_is = here.tag_is ∙ sym tag;
           unit_is = here.unit_is;
           tries_are = ap (λ z. z + 1) here.tries_are ∙ sym tries;
           outcome_is = here.outcome_is ∙ was ∙ sym none;
+          counted_is = counted;
         })
 
     queue : ((ticket d t).stage ≡ stage.Linked) ⊎ ((ticket d t).stage ≡ stage.Again) → StepsTo p t ks (queues d t)
@@ -123,7 +129,7 @@ module _ (p : Plan) (d : DeskState) (ks : ℕ → Ticket) (j : DeskJoined p d ks
         record {
           to = λ v. queued_ticket (ks t) v.tally.clears;
           step = λ v. step.queues life;
-          joined = λ v. queued-desk (queued_ticket (ks t) v.tally.clears) refl refl refl refl (ap outcome_of life);
+          joined = λ v. queued-desk (queued_ticket (ks t) v.tally.clears) refl refl refl refl (ap outcome_of life) (omega arith);
         }
     queue (inr e) = by (only-again (ks t).life (subst (IsStage (ks t).life) e here.stage_is))
       where
@@ -131,14 +137,14 @@ module _ (p : Plan) (d : DeskState) (ks : ℕ → Ticket) (j : DeskJoined p d ks
         by (inl life) = record {
           to = λ v. queued_ticket (ks t) (ks t).since;
           step = λ v. step.requeues life;
-          joined = λ v. queued-desk (queued_ticket (ks t) (ks t).since) refl refl refl refl (ap outcome_of life);
+          joined = λ v. queued-desk (queued_ticket (ks t) (ks t).since) refl refl refl refl (ap outcome_of life) (omega arith);
         }
         by (inr life) =
             let n = rogue_ticket (ks t) (ks t).status (ks t).lastp (ks t).savep ((ks t).tries + 1) (ks t).buffer (ks t).area in
             record {
               to = λ v. n;
               step = λ v. step.rogue_moves (ks t).status (ks t).lastp (ks t).savep ((ks t).tries + 1) (ks t).buffer (ks t).area life;
-              joined = λ v. queued-desk n refl refl (subst (λ z. IsStage z stage.Queued) (sym life) (inl refl)) (ap outcome_of life) (ap outcome_of life);
+              joined = λ v. queued-desk n refl refl (subst (λ z. IsStage z stage.Queued) (sym life) (inl refl)) (ap outcome_of life) (ap outcome_of life) (subst (λ z. IsCounted (progress_of z) ((ks t).tries + 1)) (sym life) (omega arith));
             }
 
     sense : (ticket d t).stage ≡ stage.Check → StepsTo p t ks (senses d t)
@@ -154,6 +160,7 @@ module _ (p : Plan) (d : DeskState) (ks : ℕ → Ticket) (j : DeskJoined p d ks
             unit_is = here.unit_is;
             tries_are = here.tries_are;
             outcome_is = here.outcome_is ∙ ap outcome_of life;
+            counted_is = counted-at Checked life;
           });
         }
 
@@ -169,6 +176,7 @@ module _ (p : Plan) (d : DeskState) (ks : ℕ → Ticket) (j : DeskJoined p d ks
             unit_is = here.unit_is;
             tries_are = here.tries_are;
             outcome_is = here.outcome_is ∙ ap outcome_of life;
+            counted_is = counted-at (Ended o) life;
           });
         }
 
@@ -184,6 +192,7 @@ module _ (p : Plan) (d : DeskState) (ks : ℕ → Ticket) (j : DeskJoined p d ks
             unit_is = here.unit_is;
             tries_are = here.tries_are;
             outcome_is = here.outcome_is ∙ ap outcome_of life.1;
+            counted_is = tt;
           });
         }
 
@@ -225,6 +234,7 @@ built-step p d new ks memory memory' l r number j b e =
         unit_is = ap (λ (q : RequestData). q.unit) (sym request);
         tries_are = refl;
         outcome_is = refl;
+        counted_is = refl;
       });
     })
 

@@ -15,7 +15,8 @@ use Rattle.world_law.specs.Resets.{sweep_outcome}
 use Rattle.ticket_fate.specs.Tickets.{Plan, Life, Lost, Rejected, Finished, Checked, ToRequeue, AskLost, Asked, AtRogue, Ended, Ticket, with_life, rogue_ticket}
 use Rattle.unit_law.specs.Log.{with_at}
 use Rattle.ticket_fate.specs.Moves as step
-use Rattle.run_joined.specs.DeskLives.{IsStage, outcome_of, IsKept, DeskJoined, StepsTo, WordsTell, IsSwept, DoneStepsMove}
+use Rattle.ticket_fate.specs.Histories.{progress_of}
+use Rattle.run_joined.specs.DeskLives.{IsStage, outcome_of, IsCounted, IsKept, DeskJoined, StepsTo, WordsTell, IsSwept, DoneStepsMove}
 use Rattle.run_joined.proofs.DeskSteps.{replaced}
 
 -- whether a ticket is asked for its sense, by its life
@@ -42,6 +43,13 @@ module _ (p : Plan) (d : DeskState) (ks : ℕ → Ticket) (j : DeskJoined p d ks
   here : IsKept p t (ticket d t) (ks t)
   here = j.each t l
 
+  counted-at : (a : Life) → (ks t).life ≡ a → IsCounted (progress_of a) (ks t).tries
+  counted-at a e = subst (λ z. IsCounted (progress_of z) (ks t).tries) e here.counted_is
+
+  -- with an outcome it has as many tries as before
+  still-counted : (o : Outcome) (k : Ticket) → k.life ≡ Ended o → k.tries ≡ (ks t).tries → 0 < (ks t).tries → IsCounted (progress_of k.life) k.tries
+  still-counted o k life tries c = subst (λ z. IsCounted (progress_of z) k.tries) (sym life) (omega (arith, c, tries))
+
   stage-at : (a : Life) → (ks t).life ≡ a → IsStage a (ticket d t).stage
   stage-at a e = subst (λ z. IsStage z (ticket d t).stage) e here.stage_is
 
@@ -55,14 +63,15 @@ module _ (p : Plan) (d : DeskState) (ks : ℕ → Ticket) (j : DeskJoined p d ks
 
     -- it has an outcome
     ends-with : (o : Outcome) (y : DeskTicket) (k : Ticket) → (takes d m t).tickets ≡ slice_set d.tickets t y → y.stage ≡ stage.Ended o → y.outcome ≡ Some o → y.tag ≡ x.tag → y.unit ≡ x.unit → y.tries ≡ x.tries
-        → k.life ≡ Ended o → k.tag ≡ (ks t).tag → k.tries ≡ (ks t).tries → DeskJoined p (takes d m t) (with_at ks t k)
-    ends-with o y k e s out tag unit tries life same_tag same_tries =
+        → k.life ≡ Ended o → k.tag ≡ (ks t).tag → k.tries ≡ (ks t).tries → 0 < (ks t).tries → DeskJoined p (takes d m t) (with_at ks t k)
+    ends-with o y k e s out tag unit tries life same_tag same_tries some =
         replaced p d ks j (takes d m t) t y k l e (record {
           stage_is = subst (λ a. IsStage a y.stage) (sym life) (ap Some (sym s));
           tag_is = tag ∙ here.tag_is ∙ sym same_tag;
           unit_is = unit ∙ here.unit_is;
           tries_are = tries ∙ here.tries_are ∙ sym same_tries;
           outcome_is = out ∙ ap outcome_of (sym life);
+          counted_is = still-counted o k life same_tries some;
         })
 
     asked : (ks t).life ≡ Asked → StepsTo p t ks (takes d m t)
@@ -71,7 +80,7 @@ module _ (p : Plan) (d : DeskState) (ks : ℕ → Ticket) (j : DeskJoined p d ks
         record {
           to = λ v. k;
           step = λ v. step.takes_sense e;
-          joined = λ v. ends-with Done (record (ended x Done) { sensed = true }) k (flagged true (is_again d m x) (is_check d m x) (sensing-only x.stage (stage-at Asked e)) refl refl) refl refl refl refl refl refl refl refl;
+          joined = λ v. ends-with Done (record (ended x Done) { sensed = true }) k (flagged true (is_again d m x) (is_check d m x) (sensing-only x.stage (stage-at Asked e)) refl refl) refl refl refl refl refl refl refl refl (counted-at Asked e);
         }
 
     rejected : (st : Status) (b : Bool) → (ks t).life ≡ Rejected st → is_again d m x ≡ b → WordsTell p d m t x (ks t) (Rejected st) → StepsTo p t ks (takes d m t)
@@ -84,6 +93,7 @@ module _ (p : Plan) (d : DeskState) (ks : ℕ → Ticket) (j : DeskJoined p d ks
         unit_is = here.unit_is;
         tries_are = here.tries_are;
         outcome_is = here.outcome_is ∙ ap outcome_of e;
+        counted_is = counted-at (Rejected st) e;
       });
     }
     rejected st false e a w =
@@ -91,7 +101,7 @@ module _ (p : Plan) (d : DeskState) (ks : ℕ → Ticket) (j : DeskJoined p d ks
         record {
           to = λ v. with_life (ks t) (Ended Done);
           step = λ v. step.takes_refused st e (many (ks t).tries p.retries (sym w.0 ∙ a));
-          joined = λ v. ends-with Done (ended x o) (with_life (ks t) (Ended Done)) (flagged false false false (queued-only x.stage (stage-at (Rejected st) e)) a w.1) (ap stage.Ended w.2) (ap Some w.2) refl refl refl refl refl refl;
+          joined = λ v. ends-with Done (ended x o) (with_life (ks t) (Ended Done)) (flagged false false false (queued-only x.stage (stage-at (Rejected st) e)) a w.1) (ap stage.Ended w.2) (ap Some w.2) refl refl refl refl refl refl (counted-at (Rejected st) e);
         }
 
     finished : (o : Outcome) (b : Bool) → (ks t).life ≡ Finished o → is_check d m x ≡ b → WordsTell p d m t x (ks t) (Finished o) → StepsTo p t ks (takes d m t)
@@ -106,6 +116,7 @@ module _ (p : Plan) (d : DeskState) (ks : ℕ → Ticket) (j : DeskJoined p d ks
             unit_is = here.unit_is;
             tries_are = here.tries_are;
             outcome_is = here.outcome_is ∙ ap outcome_of e;
+            counted_is = counted-at (Finished o) e;
           });
         }
     finished o false e c w =
@@ -113,7 +124,7 @@ module _ (p : Plan) (d : DeskState) (ks : ℕ → Ticket) (j : DeskJoined p d ks
         record {
           to = λ v. with_life (ks t) (Ended o);
           step = λ v. step.takes o e q.1;
-          joined = λ v. ends-with o (ended x (outcome_by (state_of m x) (status_byte m x))) (with_life (ks t) (Ended o)) (flagged false false false (queued-only x.stage (stage-at (Finished o) e)) w.0 c) (ap stage.Ended q.0) (ap Some q.0) refl refl refl refl refl refl;
+          joined = λ v. ends-with o (ended x (outcome_by (state_of m x) (status_byte m x))) (with_life (ks t) (Ended o)) (flagged false false false (queued-only x.stage (stage-at (Finished o) e)) w.0 c) (ap stage.Ended q.0) (ap Some q.0) refl refl refl refl refl refl (counted-at (Finished o) e);
         }
 
     at-rogue : (b : Bool) → (ks t).life ≡ AtRogue → is_again d m x ≡ b → is_check d m x ≡ false → StepsTo p t ks (takes d m t)
@@ -128,6 +139,7 @@ module _ (p : Plan) (d : DeskState) (ks : ℕ → Ticket) (j : DeskJoined p d ks
             unit_is = here.unit_is;
             tries_are = here.tries_are;
             outcome_is = here.outcome_is;
+            counted_is = here.counted_is;
           });
         }
     at-rogue false e a c =
@@ -135,7 +147,7 @@ module _ (p : Plan) (d : DeskState) (ks : ℕ → Ticket) (j : DeskJoined p d ks
         record {
           to = λ v. with_life (ks t) (Ended o);
           step = λ v. step.ends_rogue o e;
-          joined = λ v. ends-with o (ended x o) (with_life (ks t) (Ended o)) (flagged false false false (rogue-only x.stage (stage-at AtRogue e)) a c) refl refl refl refl refl refl refl refl;
+          joined = λ v. ends-with o (ended x o) (with_life (ks t) (Ended o)) (flagged false false false (rogue-only x.stage (stage-at AtRogue e)) a c) refl refl refl refl refl refl refl refl (counted-at AtRogue e);
         }
 
     done : (a : Life) → (ks t).life ≡ a → WordsTell p d m t x (ks t) a → StepsTo p t ks (takes d m t)
@@ -149,31 +161,32 @@ module _ (p : Plan) (d : DeskState) (ks : ℕ → Ticket) (j : DeskJoined p d ks
   abbrev swept_outcome : Outcome
   swept_outcome = sweep_outcome (is_sensing x.stage) (is_rogue d x)
 
-  sweeps-to : (o : Outcome) (k : Ticket) → swept_outcome ≡ o → k.life ≡ Ended o → k.tag ≡ (ks t).tag → k.tries ≡ (ks t).tries → DeskJoined p (ends d t swept_outcome) (with_at ks t k)
-  sweeps-to o k e life tag tries =
+  sweeps-to : (o : Outcome) (k : Ticket) → swept_outcome ≡ o → k.life ≡ Ended o → k.tag ≡ (ks t).tag → k.tries ≡ (ks t).tries → 0 < (ks t).tries → DeskJoined p (ends d t swept_outcome) (with_at ks t k)
+  sweeps-to o k e life tag tries some =
       replaced p d ks j (ends d t swept_outcome) t (ended x swept_outcome) k l refl (record {
         stage_is = subst (λ a. IsStage a (stage.Ended swept_outcome)) (sym life) (ap (λ z. Some (stage.Ended z)) (sym e));
         tag_is = here.tag_is ∙ sym tag;
         unit_is = here.unit_is;
         tries_are = here.tries_are ∙ sym tries;
         outcome_is = ap Some e ∙ ap outcome_of (sym life);
+        counted_is = still-counted o k life tries some;
       })
 
   sweep : (a : Life) → (ks t).life ≡ a → IsSwept a (is_sensing x.stage) (is_rogue d x) → StepsTo p t ks (ends d t swept_outcome)
   sweep Lost e w = record {
     to = λ v. with_life (ks t) (Ended Reset);
     step = λ v. step.sweeps e;
-    joined = λ v. sweeps-to Reset (with_life (ks t) (Ended Reset)) (ap (λ z. sweep_outcome z (is_rogue d x)) (queued-only x.stage (stage-at Lost e)) ∙ ap (sweep_outcome false) w) refl refl refl;
+    joined = λ v. sweeps-to Reset (with_life (ks t) (Ended Reset)) (ap (λ z. sweep_outcome z (is_rogue d x)) (queued-only x.stage (stage-at Lost e)) ∙ ap (sweep_outcome false) w) refl refl refl (counted-at Lost e);
   }
   sweep AskLost e w = record {
     to = λ v. with_life (ks t) (Ended Done);
     step = λ v. step.sweeps_asking e;
-    joined = λ v. sweeps-to Done (with_life (ks t) (Ended Done)) (ap (λ z. sweep_outcome z (is_rogue d x)) (sensing-only x.stage (stage-at AskLost e))) refl refl refl;
+    joined = λ v. sweeps-to Done (with_life (ks t) (Ended Done)) (ap (λ z. sweep_outcome z (is_rogue d x)) (sensing-only x.stage (stage-at AskLost e))) refl refl refl (counted-at AskLost e);
   }
   sweep AtRogue e w = record {
     to = λ v. with_life (ks t) (Ended swept_outcome);
     step = λ v. step.ends_rogue swept_outcome e;
-    joined = λ v. sweeps-to swept_outcome (with_life (ks t) (Ended swept_outcome)) refl refl refl refl;
+    joined = λ v. sweeps-to swept_outcome (with_life (ks t) (Ended swept_outcome)) refl refl refl refl (counted-at AtRogue e);
   }
   sweep a e w = absurd w
 

@@ -21,7 +21,7 @@ use Rattle.run_law.proofs.Longer.{notes_on}
 use Rattle.run_joined.specs.Told.{IsSilent, SaysNothing, SaysAs, opened, moves, passes, says, IsFreedIn, HistoriesTie, FreedHistories, FreedReportsFit}
 
 -- one more change, by what it says
-abbrev by_change : (marked bus device live under : Bool) (before after : Tally) → TicketHistory → TicketHistory
+abbrev pub by_change : (marked bus device live under : Bool) (before after : Tally) → TicketHistory → TicketHistory
 by_change marked bus device live under before after h = record {
   marked = h.marked || marked;
   clears = h.clears + count_if under (after.clears - before.clears);
@@ -30,7 +30,7 @@ by_change marked bus device live under before after h = record {
   uncaused_clears = h.uncaused_clears + count_if (not (bus || device)) (after.clears - before.clears);
 }
 
-abbrev by_move : (marked bus device live under : Bool) (before after : Tally) → TicketHistory → TicketHistory
+abbrev pub by_move : (marked bus device live under : Bool) (before after : Tally) → TicketHistory → TicketHistory
 by_move marked bus device live under before after h = record {
   marked = h.marked || marked;
   clears = h.clears + moved.count_if under (after.clears - before.clears);
@@ -43,7 +43,7 @@ same-count : (b : Bool) (n : ℕ) → count_if b n ≡ moved.count_if b n
 same-count true n = refl
 same-count false n = refl
 
-history-of : (a b : TicketHistory) → a.marked ≡ b.marked → a.clears ≡ b.clears → a.bus_reset ≡ b.bus_reset → a.outside ≡ b.outside → a.uncaused_clears ≡ b.uncaused_clears → a ≡ b
+pub history-of : (a b : TicketHistory) → a.marked ≡ b.marked → a.clears ≡ b.clears → a.bus_reset ≡ b.bus_reset → a.outside ≡ b.outside → a.uncaused_clears ≡ b.uncaused_clears → a ≡ b
 history-of a b m c f o u =
     ap (λ (z : Bool). let h : TicketHistory = record { marked = z; clears = a.clears; bus_reset = a.bus_reset; outside = a.outside; uncaused_clears = a.uncaused_clears } in h) m
     ∙ ap (λ (z : ℕ). let h : TicketHistory = record { marked = b.marked; clears = z; bus_reset = a.bus_reset; outside = a.outside; uncaused_clears = a.uncaused_clears } in h) c
@@ -51,17 +51,17 @@ history-of a b m c f o u =
     ∙ ap (λ (z : ℕ). let h : TicketHistory = record { marked = b.marked; clears = b.clears; bus_reset = b.bus_reset; outside = z; uncaused_clears = a.uncaused_clears } in h) o
     ∙ ap (λ (z : ℕ). let h : TicketHistory = record { marked = b.marked; clears = b.clears; bus_reset = b.bus_reset; outside = b.outside; uncaused_clears = z } in h) u
 
-changes-move : (marked bus device live under : Bool) (before after : Tally) (h : TicketHistory) → by_change marked bus device live under before after h ≡ by_move marked bus device live under before after h
+pub changes-move : (marked bus device live under : Bool) (before after : Tally) (h : TicketHistory) → by_change marked bus device live under before after h ≡ by_move marked bus device live under before after h
 changes-move marked bus device live under before after h =
     history-of (by_change marked bus device live under before after h) (by_move marked bus device live under before after h) refl
     (ap (λ z. h.clears + z) (same-count under _)) refl (ap (λ z. h.outside + z) (same-count (not live) _)) (ap (λ z. h.uncaused_clears + z) (same-count (not (bus || device)) _))
 
 -- nothing is said
-or-none : (a : Bool) → (a || false) ≡ a
+pub or-none : (a : Bool) → (a || false) ≡ a
 or-none true = refl
 or-none false = refl
 
-count-none : (b : Bool) (n : ℕ) → moved.count_if b (n - n) ≡ 0
+pub count-none : (b : Bool) (n : ℕ) → moved.count_if b (n - n) ≡ 0
 count-none true n = omega arith
 count-none false n = refl
 
@@ -70,7 +70,7 @@ silent-by device live under k h =
     history-of (by_move false false device live under k k h) h (or-none h.marked) (omega (arith, count-none under k.clears)) (or-none h.bus_reset) (omega (arith, count-none (not live) (entries k)))
     (omega (arith, count-none (not (false || device)) k.clears))
 
-silent-move : (p : Plan) (count : ℕ) (ks : ℕ → Ticket) (ts : ℕ → Target) (ns : ℕ → Ticket) (us : ℕ → Target) (x : ℕ) (m : Moves p count ks ts ns us) (h : TicketHistory) → IsSilent p count ks ts ns us x m → moved.noted x m h ≡ h
+pub silent-move : (p : Plan) (count : ℕ) (ks : ℕ → Ticket) (ts : ℕ → Target) (ns : ℕ → Ticket) (us : ℕ → Target) (x : ℕ) (m : Moves p count ks ts ns us) (h : TicketHistory) → IsSilent p count ks ts ns us x m → moved.noted x m h ≡ h
 silent-move p count ks ts ns us x m h s =
     let device = resets_by is_device (target_of p x) m in
     let live = is_live (ks x).life in
@@ -81,7 +81,7 @@ silent-move p count ks ts ns us x m h s =
     ∙ ap (λ z. by_move false false device live under before z h) s.tally
     ∙ silent-by device live under before h
 
-silent-change : (g : BenchSetting) (u x : ℕ) (c : Change) (h : TicketHistory) → SaysNothing g u x c → noted g u x h c ≡ h
+pub silent-change : (g : BenchSetting) (u x : ℕ) (c : Change) (h : TicketHistory) → SaysNothing g u x c → noted g u x h c ≡ h
 silent-change g u x c h s =
     let device = resets_device g (unit c.before.desk u).target c in
     let live = lives_in c.before x in
@@ -110,7 +110,7 @@ same-noted g u x c p count ks ts ns us m h s =
     ∙ ap (λ z. by_move (marks_in x m) (resets_by is_bus (target_of p x) m) (resets_by is_device (target_of p x) m) (is_live (ks x).life) (moved.is_under_way (progress_of (ks x).life)) z after h) s.before
     ∙ ap (λ z. by_move (marks_in x m) (resets_by is_bus (target_of p x) m) (resets_by is_device (target_of p x) m) (is_live (ks x).life) (moved.is_under_way (progress_of (ks x).life)) (moved.tally_in p ts x) z h) s.after
 
-none-noted : (g : BenchSetting) (u x : ℕ) (w : World) → history g u x w [] ≡ moved.no_history
+pub none-noted : (g : BenchSetting) (u x : ℕ) (w : World) → history g u x w [] ≡ moved.no_history
 unfolding history
 none-noted g u x w = refl
 

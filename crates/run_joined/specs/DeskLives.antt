@@ -16,6 +16,7 @@ use Rattle.world_law.specs.Resets.{sweep_outcome}
 use Rattle.desk_law.specs.Building.{Builds}
 use Rattle.ticket_fate.specs.Tickets.{Plan, unit_of, Life, Unbuilt, Built, Linked, ToRequeue, Checked, Lost, Rejected, Finished, Asks, AskStarts, AskConnected, AskLost, Asked, AtRogue, Ended, Unlinked, Freed, Ticket}
 use Rattle.ticket_fate.specs.Moves.{IsToAsk, TicketMove, selects, times_out, cancels, ask_selects, selects_rogue, Moves, alone}
+use Rattle.ticket_fate.specs.Histories.{Progress, NotQueued, UnderWay, Reported, progress_of}
 use Rattle.ticket_fate.specs.Laws.{Reached}
 
 -- the stage of a ticket by its life; None before its Build
@@ -47,6 +48,12 @@ outcome_of (Unlinked o) = Some o
 outcome_of (Freed o) = Some o
 outcome_of _ = None
 
+-- before its first Queue it has no tries, and from then on it has some
+abbrev pub IsCounted : Progress → (tries : ℕ) → Type 0
+IsCounted NotQueued n = n ≡ 0
+IsCounted UnderWay n = 0 < n
+IsCounted Reported n = Unit {0}
+
 -- what the desk keeps of ticket t
 pub record IsKept (p : Plan) (t : ℕ) (x : DeskTicket) (k : Ticket) : Type 0 where
   pub stage_is : IsStage k.life x.stage
@@ -54,6 +61,7 @@ pub record IsKept (p : Plan) (t : ℕ) (x : DeskTicket) (k : Ticket) : Type 0 wh
   pub unit_is : x.unit ≡ unit_of p t
   pub tries_are : x.tries ≡ k.tries
   pub outcome_is : x.outcome ≡ outcome_of k.life
+  pub counted_is : IsCounted (progress_of k.life) k.tries
 
 -- the desk has the tickets that are built, in the order of their numbers
 pub record DeskJoined (p : Plan) (d : DeskState) (ks : ℕ → Ticket) : Type 0 where

@@ -1,2 +1,4 @@
 pub mod Told
 pub mod DeskLives
+pub mod Plans
+pub mod Joined

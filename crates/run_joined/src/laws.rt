@@ -1,6 +1,8 @@
 //! Laws of runs and moves. Each function does nothing; its contract is the law.
 
 ghost use Rattle.run_joined.specs.DeskLives.{DeskStepsMove, DoneStepsMove, ChipLeavesDesk};
+ghost use Rattle.run_joined.specs.Joined.{OpeningIsJoined};
+ghost use Rattle.run_joined.specs.Plans.{PlansExist, PlansStay};
 ghost use Rattle.run_joined.specs.Told.{HistoriesTie, FreedHistories, FreedReportsFit};
 
 /// Where a run's changes say of a ticket what the moves say, the run's history of it is that of the moves; once it is freed,
@@ -25,4 +27,17 @@ pub fn chip_leaves_desk()
 /// TakeDone, where the words of the ticket's block tell what its life says, and Sweep are each a step of the ticket.
 pub fn done_steps_move()
     ensures { DoneStepsMove }
+{}
+
+/// Every run over a work of bytes has a plan: the request of each ticket, which the driver accepts, and the units of the rig.
+/// It was the plan at each moment before.
+pub fn plans_exist()
+    ensures exist { PlansExist }
+    ensures stay { PlansStay }
+{}
+
+/// The opening of a bench is an opening of tickets and targets: no ticket is built, no target is connected, and the targets
+/// have just the units of the rig, each at its own opening.
+pub fn opening_is_joined()
+    ensures { OpeningIsJoined }
 {}

@@ -3,4 +3,7 @@
 
 mod laws;
 
-pub use laws::{chip_leaves_desk, desk_steps_move, done_steps_move, histories_tie};
+pub use laws::{
+    chip_leaves_desk, desk_steps_move, done_steps_move, histories_tie, opening_is_joined,
+    plans_exist,
+};
