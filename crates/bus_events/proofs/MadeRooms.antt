@@ -192,11 +192,7 @@ room-is-made = record {
       let same = ap (λ (y : DeviceState). room_at y lun) at in
       reserves-suffice.reserved g n built ks u.log (room_at (device_at (with_room_at b i) (g.units n).target) lun) live (omega (arith, room, reserve, same));
   same = targets-stay;
-  grows = λ g units b ks built i spare h s n less u there.
-      let lun = (g.units n).lun in
-      let old : HasLog g n (targets b) u = ap (λ (f : ℕ → Target). unit_at (f (g.units n).target).units lun) (sym (targets-stay b i)) ∙ there in
-      let more = no-less b i lun (h.luns n less) h.rooms (g.units n).target in
-      omega (arith, s n less u old, more);
+  grows = λ g units b i h n less. no-less b i (g.units n).lun (h.luns n less) h.rooms (g.units n).target;
   places = λ g units b h. (
     places-at g units b h,
     places-by g units b with_room (λ d. all-length (range_with_len 0 8) d) (with_all_room b) refl h,

@@ -68,5 +68,6 @@ pub record RoomIsMade : Type 0 where
       → (n : ℕ) → n < length units → (g.units n).target ≡ i → LiveWithinDepth g n built ks → (u : LogicalUnit) → HasLog g n (targets (with_room_at b i)) u
       → HasSpare g n built ks u.log (room_at (device_at (with_room_at b i) (g.units n).target) (g.units n).lun) 2
   pub same : (b : BusState) (i : ℕ) → targets (with_room_at b i) ≡ targets b
-  pub grows : (g : Plan) (units : List RigUnit) (b : BusState) (ks : ℕ → Ticket) (built i : ℕ) (spare : ℕ → ℕ) → HasPlaces g units b → AreReserved g units built b ks spare → AreReserved g units built (with_room_at b i) ks spare
+  pub grows : (g : Plan) (units : List RigUnit) (b : BusState) (i : ℕ) → HasPlaces g units b → (n : ℕ) → n < length units
+      → room_at (device_at b (g.units n).target) (g.units n).lun ≤ room_at (device_at (with_room_at b i) (g.units n).target) (g.units n).lun
   pub places : (g : Plan) (units : List RigUnit) (b : BusState) → HasPlaces g units b → ((i : ℕ) → HasPlaces g units (with_room_at b i)) × HasPlaces g units (with_all_room b) × HasPlaces g units (bus_reset b)

@@ -6,3 +6,6 @@ pub mod Requests
 pub mod Rigs
 pub mod Plans
 pub mod Opening
+pub mod Moved
+pub mod DriverSteps
+pub mod WordSteps

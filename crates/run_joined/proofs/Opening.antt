@@ -262,7 +262,7 @@ module _ (g : BenchSetting) (p : Plan) (setting : IsBenchSetting g) (plan : IsPl
     record {
       tickets = joined;
       desk = record { unbuilt = λ x l. refl; each = λ t l. absurd (omega (arith, l)) };
-      rig = record { units = refl; retries = refl; autosense = refl };
+      rig = record { version = refl; units = refl; retries = refl; autosense = refl };
       places = places;
       reserved = reserved;
       most = λ n. omega arith;

@@ -209,7 +209,7 @@ module _ (g : BenchSetting) (setting : IsBenchSetting g) (w : World) (h : HaveCo
 
 pub plans-exist : PlansExist
 plans-exist g setting bytes ms r =
-    let d : IsDeskOf g (opened g).desk = record { units = refl; retries = refl; autosense = refl } in
+    let d : IsDeskOf g (opened g).desk = record { version = refl; units = refl; retries = refl; autosense = refl } in
     let x = run-commands g bytes (opened g) ms r d (λ t l. absurd (omega (arith, l))) in
     (plan_at g (last (opened g) ms), is-plan g setting (last (opened g) ms) x.0, is-plan-of g setting (last (opened g) ms) x.0)
 

@@ -31,15 +31,17 @@ use Rattle.word_owners.specs.BenchSteps.{is_build}
 use Rattle.run_joined.specs.Joined.{IsDeskOf}
 
 pub record SameRig (old new : DeskState) : Type 0 where
+  pub version : new.version ≡ old.version
   pub units : new.units ≡ old.units
   pub retries : new.retries ≡ old.retries
   pub autosense : new.autosense ≡ old.autosense
 
 pub as-before : (d : DeskState) → SameRig d d
-as-before d = record { units = refl; retries = refl; autosense = refl }
+as-before d = record { version = refl; units = refl; retries = refl; autosense = refl }
 
 pub as-made : (old : DeskState) (made new : World) → new ≡ made → SameRig old made.desk → SameRig old new.desk
 as-made old made new e h = record {
+  version = ap (λ (w : World). w.desk.version) e ∙ h.version;
   units = ap (λ (w : World). w.desk.units) e ∙ h.units;
   retries = ap (λ (w : World). w.desk.retries) e ∙ h.retries;
   autosense = ap (λ (w : World). w.desk.autosense) e ∙ h.autosense;
@@ -47,13 +49,14 @@ as-made old made new e h = record {
 
 pub by-desk : (old made new : DeskState) → new ≡ made → SameRig old made → SameRig old new
 by-desk old made new e h = record {
+  version = ap (λ (d : DeskState). d.version) e ∙ h.version;
   units = ap (λ (d : DeskState). d.units) e ∙ h.units;
   retries = ap (λ (d : DeskState). d.retries) e ∙ h.retries;
   autosense = ap (λ (d : DeskState). d.autosense) e ∙ h.autosense;
 }
 
-same-rig : {old : DeskState} {new : DeskState} → new.units ≡ old.units → new.retries ≡ old.retries → new.autosense ≡ old.autosense → SameRig old new
-same-rig u r a = record { units = u; retries = r; autosense = a }
+pub same-rig : {old : DeskState} {new : DeskState} → new.version ≡ old.version → new.units ≡ old.units → new.retries ≡ old.retries → new.autosense ≡ old.autosense → SameRig old new
+same-rig v u r a = record { version = v; units = u; retries = r; autosense = a }
 
 refused-rig : (again : Bool) (old : World) (l : Line) (r : Refused) → SameRig old.desk (refuses again old l r).desk
 refused-rig true old l r = as-before old.desk
@@ -61,13 +64,13 @@ refused-rig false old l r = as-before old.desk
 
 build-rig : (k : Option Command) (old : World) (l : Line) (a : Reply) (new : World) → BuildsOf k old l a new → SameRig old.desk new.desk
 build-rig None old l a new m = absurd m
-build-rig (Some c) old l (reply.Built t) new m = by-desk old.desk _ new.desk m.builds.desk (same-rig refl refl refl)
+build-rig (Some c) old l (reply.Built t) new m = by-desk old.desk _ new.desk m.builds.desk (same-rig refl refl refl refl)
 build-rig (Some c) old l (reply.Refused r) new m = as-made old.desk _ new m.1 (refused-rig (is_tried_again c.when_full r) old l r)
 build-rig (Some c) old l _ new m = absurd m
 
 takes-rig : (o : Option ℕ) (old : World) (a : Reply) (new : World) → TakesOf o old a new → SameRig old.desk new.desk
 takes-rig None old a new m = absurd m
-takes-rig (Some t) old a new m = as-made old.desk _ new m.1 (same-rig refl refl refl)
+takes-rig (Some t) old a new m = as-made old.desk _ new m.1 (same-rig refl refl refl refl)
 
 marks-rig : (late : Bool) (old : World) (t : ℕ) → SameRig old.desk (marks late old t).world.desk
 marks-rig true old t = as-before old.desk
@@ -79,7 +82,7 @@ aborts-rig (line.Accepted t) old = marks-rig (is_late (ticket old.desk t).stage)
 aborts-rig (line.Refused r) old = as-before old.desk
 
 fronts-rig : (idle : Bool) (old : World) (target : ℕ) → SameRig old.desk (device_resets idle old target).world.desk
-fronts-rig true old target = same-rig refl refl refl
+fronts-rig true old target = same-rig refl refl refl refl
 fronts-rig false old target = as-before old.desk
 
 bus-rig : (s : Stop) (old : World) → SameRig old.desk (bus_resets s old).world.desk
@@ -103,22 +106,22 @@ fixes-rig old new (inr x) = as-made old.desk _ new x.1 (as-before old.desk)
 
 pub rig-stays : (g : BenchSetting) (old : World) (caller : ℕ) (s : Step) (a : Reply) (new : World) → Does g old caller s a new → SameRig old.desk new.desk
 rig-stays g old caller (step.Build l) a new m = build-rig (command_at g l) old l a new m
-rig-stays g old caller (step.Link t) a new m = as-made old.desk _ new m.1 (same-rig refl refl refl)
-rig-stays g old caller (step.Queue t) a new m = as-made old.desk _ new m.1 (same-rig refl refl refl)
-rig-stays g old caller step.Signal a new m = as-made old.desk _ new m.1 (same-rig refl refl refl)
+rig-stays g old caller (step.Link t) a new m = as-made old.desk _ new m.1 (same-rig refl refl refl refl)
+rig-stays g old caller (step.Queue t) a new m = as-made old.desk _ new m.1 (same-rig refl refl refl refl)
+rig-stays g old caller step.Signal a new m = as-made old.desk _ new m.1 (same-rig refl refl refl refl)
 rig-stays g old caller (step.Chip word) a new m = as-made old.desk _ new m.world (as-before old.desk)
 rig-stays g old caller step.Fix a new m = fixes-rig old new m.1
-rig-stays g old caller (step.Sweep t) a new m = as-made old.desk _ new m.1 (same-rig refl refl refl)
+rig-stays g old caller (step.Sweep t) a new m = as-made old.desk _ new m.1 (same-rig refl refl refl refl)
 rig-stays g old caller step.Restart a new m = as-made old.desk _ new m.1 (as-before old.desk)
 rig-stays g old caller step.TakeDone a new m = takes-rig (done_ticket old.memory old.desk) old a new m
-rig-stays g old caller (step.Unlink t) a new m = as-made old.desk _ new m.1 (same-rig refl refl refl)
-rig-stays g old caller (step.Free t) a new m = by-desk old.desk _ new.desk m.frees.desk (same-rig refl refl refl)
+rig-stays g old caller (step.Unlink t) a new m = as-made old.desk _ new m.1 (same-rig refl refl refl refl)
+rig-stays g old caller (step.Free t) a new m = by-desk old.desk _ new.desk m.frees.desk (same-rig refl refl refl refl)
 rig-stays g old caller (step.Act k) a new m = acts-rig (slice_get g.acts k) old a new m
 rig-stays g old caller step.ResetBus a new m = as-made old.desk _ new m.1 (as-before old.desk)
-rig-stays g old caller (step.Sense t) a new m = as-made old.desk _ new m.1 (same-rig refl refl refl)
+rig-stays g old caller (step.Sense t) a new m = as-made old.desk _ new m.1 (same-rig refl refl refl refl)
 
 pub desk-stays : (g : BenchSetting) (old new : DeskState) → SameRig old new → IsDeskOf g old → IsDeskOf g new
-desk-stays g old new s h = record { units = s.units ∙ h.units; retries = s.retries ∙ h.retries; autosense = s.autosense ∙ h.autosense }
+desk-stays g old new s h = record { version = s.version ∙ h.version; units = s.units ∙ h.units; retries = s.retries ∙ h.retries; autosense = s.autosense ∙ h.autosense }
 
 -- ---- no other step than Build answers that a ticket was built
 chip-builds : (e : StepEnd) → built (reply_for e) ≡ None

@@ -1,7 +1,7 @@
 //! Laws of runs and moves. Each function does nothing; its contract is the law.
 
 ghost use Rattle.run_joined.specs.DeskLives.{DeskStepsMove, DoneStepsMove, ChipLeavesDesk};
-ghost use Rattle.run_joined.specs.Joined.{OpeningIsJoined};
+ghost use Rattle.run_joined.specs.Joined.{DriverStepsJoin, OpeningIsJoined, WordStepsJoin};
 ghost use Rattle.run_joined.specs.Plans.{PlansExist, PlansStay};
 ghost use Rattle.run_joined.specs.Told.{HistoriesTie, FreedHistories, FreedReportsFit};
 
@@ -40,4 +40,17 @@ pub fn plans_exist()
 /// have just the units of the rig, each at its own opening.
 pub fn opening_is_joined()
     ensures { OpeningIsJoined }
+{}
+
+/// Every step of the driver but TakeDone and Sweep leads from a world that is joined to tickets and targets to one that is so
+/// again, by a list of moves that says of each ticket what the step says: Build, Link, Queue, Signal, Fix, Restart, Unlink,
+/// Free, Sense, an abort, a device reset, and each reset of the bus.
+pub fn driver_steps_join()
+    ensures { DriverStepsJoin }
+{}
+
+/// So are TakeDone, where the words of the ticket's block tell what its life says, and Sweep of a ticket that a reset took from
+/// the chip.
+pub fn word_steps_join()
+    ensures { WordStepsJoin }
 {}

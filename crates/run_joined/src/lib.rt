@@ -4,6 +4,6 @@
 mod laws;
 
 pub use laws::{
-    chip_leaves_desk, desk_steps_move, done_steps_move, histories_tie, opening_is_joined,
-    plans_exist,
+    chip_leaves_desk, desk_steps_move, done_steps_move, driver_steps_join, histories_tie,
+    opening_is_joined, plans_exist, word_steps_join,
 };
