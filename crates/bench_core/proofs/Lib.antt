@@ -2,6 +2,7 @@ pub mod Replays
 pub mod Growth
 pub mod Settled
 pub mod Opened
+pub mod Longer
 pub mod Answered
 pub mod Made
 pub mod UnitsGrow

@@ -1,12 +1,14 @@
 //! The bench: a world, and the list of the steps that led to it.
 
-ghost use Rattle.std.specs.Prelude.{◌≡◌, ◌<◌, ◌≤◌, ◌%◌, ◌↔◌, IsTrue, IfOk, length, true, Some, slice_get, vec_capacity};
+ghost use Rattle.std.specs.Prelude.{◌≡◌, ◌<◌, ◌≤◌, ◌%◌, ◌↔◌, IsTrue, IfOk, OnOk, OnErr, length, sum, true, Some, slice_get, vec_capacity};
 ghost use Rattle.bench_words.specs.Memory.{word_at};
+ghost use Rattle.rig_types.specs.Works.{IsCommand, counts_of};
 ghost use Rattle.chip_regs.specs.Registers.{cause_of};
-ghost use Rattle.world_law.specs.World.{decided};
+ghost use Rattle.world_law.specs.World.{commands_of, decided};
 ghost use Rattle.world_law.specs.Lines.{drained};
 ghost use Rattle.world_law.specs.Enabling.{Enabled};
 ghost use Rattle.world_law.specs.Seeing.{seen};
+ghost use Rattle.world_law.specs.Laws.{longer};
 ghost use Rattle.world_law.specs.Runs.{is_recorded};
 ghost use Rattle.world_law.specs.Answers.{WithinLimit, Answers};
 ghost use Rattle.bench_state.specs.States.{setting_of};
@@ -15,7 +17,7 @@ ghost use Rattle.bench_core.specs.Histories.{opened_history, entered, IsReplayed
 
 use bench_state::State;
 use chip_regs::Cause;
-use rig_types::{Entry, Line, Report, Rig, Step, Work};
+use rig_types::{Command, Entry, Line, Report, Rig, Step, Work};
 use std::alloc::{AllocError, Global};
 use std::marker::Model;
 use world_law::{Decided, Reply, Seen};
@@ -115,6 +117,23 @@ impl Bench {
             return Reply::NotNow(self.seen(caller, step));
         }
         self.make(caller, step)
+    }
+
+    /// Adds a last line to a submitter, and tells which it is. The list and the world stay, and the list is lawful over
+    /// the longer work too. Its one error is want of memory, and nothing has changed then.
+    ///
+    /// Condition: the submitter is there, the command is in range, and the work has fewer than 2^31 commands.
+    pub fn extend(&mut self, submitter: u16, command: Command) -> Result<Line, AllocError>
+        requires there { submitter < length self.old.setting.submitters }
+        requires in_range { IsCommand command }
+        requires few { sum (counts_of self.old.setting.submitters) < 2147483648 }
+        ensures line { IfOk result (λ l. l ≡ record { submitter = submitter; number = length (commands_of self.old.setting submitter) }) }
+        ensures setting { OnOk result (self.new.setting ≡ longer self.old.setting submitter command) }
+        ensures entries { self.new.entries ≡ self.old.entries }
+        ensures world { self.new.world ≡ self.old.world }
+        ensures err { OnErr result (self.new ≡ self.old) }
+    {
+        self.state.extend(submitter, command)
     }
 
     /// How many entries the list has.
