@@ -1,5 +1,5 @@
 -- No call of the bus changes how many entries a log has room for.
-use Rattle.std.proofs.Common.{◌≡◌, ℕ, zero, suc, Bool, true, false, List, [], ◌∷◌, slice_index_or, slice_set, refl, ap, ◌∙◌, Option, Some, None, cond}
+use Rattle.std.proofs.Common.{◌≡◌, ℕ, zero, suc, Bool, true, false, List, [], ◌∷◌, length, length-set, slice_index_or, slice_set, refl, ap, ◌∙◌, Option, Some, None, cond}
 use Rattle.scsi_words.specs.declared.phases.kinds.Phase.{Phase as BusPhase}
 use Rattle.rig_types.specs.declared.rig.Unit.{Unit as RigUnit}
 use Rattle.chip_step.specs.Event.{Event, Phase, Shown, ByteIn, ByteOut, Select, Reselect, SetAtn, ClearAck, Leave}
@@ -119,3 +119,69 @@ rooms-stay units live old (Reselect word by) new m = made old new _ m.1 (reselec
 rooms-stay units live old (SetAtn on) new m = made old new _ m (attention-keeps on old)
 rooms-stay units live old ClearAck new m = made old new _ m (ack-keeps old.ack old)
 rooms-stay units live old (Leave word gone) new m = made old new _ m.1 (turn-keeps old.connected word old)
+
+-- ---- no device comes or goes
+abbrev SameSize : (old new : BusState) → Type 0
+SameSize old new = length new.devices ≡ length old.devices
+
+becomes-size : (b : BusState) (id : ℕ) (d : DeviceState) → SameSize b (becomes b id d)
+becomes-size b id d = by (is_free d.target.link) ∙ length-set b.devices id d
+  where
+    by : (f : Bool) → length (free_if f (with_device b id d)).devices ≡ length (with_device b id d).devices
+    by true = refl
+    by false = refl
+
+turn-size : (o : Option ℕ) (word : ℕ) (b : BusState) → SameSize b (after_turn o word b)
+turn-size None word b = refl
+turn-size (Some id) word b = becomes-size b id (turned b.atn word (device_at b id))
+
+byte-in-size : (o byte : Option ℕ) (b : BusState) → SameSize b (after_byte_in o byte b)
+byte-in-size None None b = refl
+byte-in-size None (Some x) b = refl
+byte-in-size (Some id) None b = refl
+byte-in-size (Some id) (Some x) b = length-set b.devices id (sent (Some x) (device_at b id))
+
+byte-out-size : (live : ℕ → Nexus → Option ℕ) (taken : Bool) (o : Option ℕ) (byte : ℕ) (b : BusState) → SameSize b (after_byte_out live taken o byte b)
+byte-out-size live true None byte b = refl
+byte-out-size live true (Some id) byte b = becomes-size b id (device_took live id (device_at b id) byte)
+byte-out-size live false o byte b = refl
+
+reselected-size : (o : Option Candidate) (word : ℕ) (b : BusState) → SameSize b (after_reselection o word b)
+reselected-size None word b = refl
+reselected-size (Some c) word b = length-set b.devices c.target (device_reselected (device_at b c.target) word c)
+
+selected-size : (o : Option Candidate) (there : Bool) (id word : ℕ) (b : BusState) → SameSize b (after_selection o there id word b)
+selected-size (Some c) there id word b = length-set b.devices c.target (device_reselected (device_at b c.target) word c)
+selected-size None true id word b = length-set b.devices id (device_selected (device_at b id))
+selected-size None false id word b = refl
+
+message-size : (shown : Bool) (o : Option ℕ) (b : BusState) → SameSize b (messaged shown o b)
+message-size true None b = refl
+message-size true (Some id) b = becomes-size b id (device_messaged (device_at b id))
+message-size false o b = refl
+
+attention-size : (on : Bool) (b : BusState) → SameSize b (after_atn on b)
+attention-size true b = refl
+attention-size false b = message-size (is_message_out (link_phase (link_on b))) b.connected b
+
+acked-size : (o : Option ℕ) (b : BusState) → SameSize b (acked o b)
+acked-size None b = refl
+acked-size (Some id) b = becomes-size b id (device_acked (device_at b id))
+
+ack-size : (ack : Bool) (b : BusState) → SameSize b (after_ack ack b)
+ack-size true b = acked-size b.connected b
+ack-size false b = refl
+
+sized : (old new b : BusState) → new ≡ b → SameSize old b → SameSize old new
+sized old new b e k = ap (λ (z : BusState). length z.devices) e ∙ k
+
+pub devices-stay : (units : List RigUnit) (live : ℕ → Nexus → Option ℕ) (old : BusState) (event : Event) (new : BusState) → moves units live old event new → length new.devices ≡ length old.devices
+devices-stay units live old (Phase word shown) new m = sized old new _ m.1 (turn-size old.connected word old)
+devices-stay units live old (Shown shown) new m = sized old new old m.1 refl
+devices-stay units live old (ByteIn byte) new m = sized old new _ m.1 (byte-in-size old.connected byte old)
+devices-stay units live old (ByteOut byte taken) new m = sized old new _ m.1 (byte-out-size live taken old.connected byte old)
+devices-stay units live old (Select target word settled) new m = sized old new _ m.1 (selected-size (candidate_named units old word) (can_select old target) target word old)
+devices-stay units live old (Reselect word by) new m = sized old new _ m.1 (reselected-size (candidate_named units old word) word old)
+devices-stay units live old (SetAtn on) new m = sized old new _ m (attention-size on old)
+devices-stay units live old ClearAck new m = sized old new _ m (ack-size old.ack old)
+devices-stay units live old (Leave word gone) new m = sized old new _ m.1 (turn-size old.connected word old)

@@ -9,3 +9,5 @@ pub mod Opening
 pub mod Moved
 pub mod DriverSteps
 pub mod WordSteps
+pub mod ChipCalls
+pub mod JoinedRuns

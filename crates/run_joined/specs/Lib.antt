@@ -2,3 +2,5 @@ pub mod Told
 pub mod DeskLives
 pub mod Plans
 pub mod Joined
+pub mod ChipCalls
+pub mod JoinedRuns

@@ -1,7 +1,9 @@
 //! Laws of runs and moves. Each function does nothing; its contract is the law.
 
+ghost use Rattle.run_joined.specs.ChipCalls.{ChipStepsJoin};
 ghost use Rattle.run_joined.specs.DeskLives.{DeskStepsMove, DoneStepsMove, ChipLeavesDesk};
 ghost use Rattle.run_joined.specs.Joined.{DriverStepsJoin, OpeningIsJoined, WordStepsJoin};
+ghost use Rattle.run_joined.specs.JoinedRuns.{JoinedRunsFit, RunsJoin};
 ghost use Rattle.run_joined.specs.Plans.{PlansExist, PlansStay};
 ghost use Rattle.run_joined.specs.Told.{HistoriesTie, FreedHistories, FreedReportsFit};
 
@@ -53,4 +55,25 @@ pub fn driver_steps_join()
 /// the chip.
 pub fn word_steps_join()
     ensures { WordStepsJoin }
+{}
+
+/// So is a step of the chip, where each call of the bus finds of the tickets what it asks, and BUS DEVICE RESET comes where the run
+/// says so and has its room; then the chip may make moves of tickets of its own: a selection, one that timed out, a cancelled
+/// ticket, pointers that it writes.
+pub fn chip_steps_join()
+    ensures { ChipStepsJoin }
+{}
+
+/// Every run is joined to a list of moves of tickets and targets, where each step of the chip, TakeDone and Sweep in it is
+/// (`WordsJoin`): the moves lead from the opening to the world after the run, and the history of each ticket in the run is that
+/// of the moves.
+pub fn runs_join()
+    ensures { RunsJoin }
+{}
+
+/// In a run that is so joined the report of each freed ticket, as the moves make it, and its sense fit the log of its unit in the
+/// world after the run, with the run's history, and the desk has its outcome and its tries; and each unit is what its log makes
+/// of its opening.
+pub fn joined_runs_fit()
+    ensures { JoinedRunsFit }
 {}

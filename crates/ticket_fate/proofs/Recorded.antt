@@ -285,7 +285,7 @@ module _ (g : Plan) (count : ℕ) (plan : IsPlan g count) (ks : ℕ → Ticket) 
   turned ns us (resets_work i b c u w free there can) = reset-parted i b _ c (work i c w free) (same_or_not x c.task.ticket)
   turned ns us (resets_asking i c u w free there) = reset-alone i ByBus _
 
-  stepped : (ns : ℕ → Ticket) (us : ℕ → Target) (m : Moves g count ks ts ns us)
+  pub stepped : (ns : ℕ → Ticket) (us : ℕ → Target) (m : Moves g count ks ts ns us)
       → TallyStep (is_live (ks x).life) (resets_by is_bus (target_of g x) m || resets_by is_device (target_of g x) m) (tally_in g ts x) (tally_in g us x)
   stepped ns us (alone y k u there m) = calm g count plan ks ts h x ts false (inl refl)
   stepped ns us (points y lastp savep e) = calm g count plan ks ts h x ts false (inl refl)
