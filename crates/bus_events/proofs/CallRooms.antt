@@ -27,7 +27,7 @@ use Rattle.ticket_room.specs.Rooms.{AreBelow, HasSpare, clears_in, HasLog}
 use Rattle.ticket_room.proofs.Moves.{logs-stay-within}
 use Rattle.bus_events.specs.Targets.{targets, HasRoom}
 use Rattle.bus_events.specs.Tickets.{after_message, link_resets, resets_device, tickets_after}
-use Rattle.bus_events.specs.Owed.{Owes, HasRoomAt, HasRoomFor}
+use Rattle.bus_events.specs.Needs.{Needs, HasRoomAt, HasRoomFor}
 use Rattle.bus_events.specs.TicketLaws.{AreJoined, Follows}
 use Rattle.bus_events.specs.Rooms.{AreReserved, clears_at, CallsHaveRoom}
 use Rattle.bus_events.proofs.Devices.{link-is}
@@ -136,22 +136,22 @@ module _ (g : Plan) (units : List RigUnit) (old : BusState) (ks : ℕ → Ticket
   link-old : (i : ℕ) → old.connected ≡ Some i → link_on old ≡ (ts i).link
   link-old i e = link-is old i (ts i).link e refl
 
-  room-at : (event : Event) (spare : ℕ → ℕ) (live : ℕ → Nexus → Option ℕ) → Owes g live old event ks → Spare event spare → (i : ℕ) → old.connected ≡ Some i → HasRoomAt old i event
-  room-at (Phase word shown) spare live owes s i e = choice-room i spare (no-more spare s)
-  room-at (Leave word gone) spare live owes s i e = choice-room i spare (no-more spare s)
-  room-at (SetAtn false) spare live owes s i e =
-      λ shown. by (is_message_out (link_phase (ts i).link)) shown (messaged-goes g count ks ts j.reached.plan h i (ts i).link refl (owes i e))
+  room-at : (event : Event) (spare : ℕ → ℕ) (live : ℕ → Nexus → Option ℕ) → Needs g live old event ks → Spare event spare → (i : ℕ) → old.connected ≡ Some i → HasRoomAt old i event
+  room-at (Phase word shown) spare live needs s i e = choice-room i spare (no-more spare s)
+  room-at (Leave word gone) spare live needs s i e = choice-room i spare (no-more spare s)
+  room-at (SetAtn false) spare live needs s i e =
+      λ shown. by (is_message_out (link_phase (ts i).link)) shown (messaged-goes g count ks ts j.reached.plan h i (ts i).link refl (needs i e))
     where
       by : (b : Bool) → b ≡ true → GoesBy g count ks ts j.reached.plan h i (link_resets (ts i).link) (after_message ks g i (ts i) b (ts i).link) (messaged_if g count ks ts j.reached.plan h i b) → HasRoom old i (target_messaged (ts i))
       by true f q = goes-within i (target_messaged (ts i)) (link_resets (ts i).link) _ e q spare (subst (λ z. AreReserved g units built old ks (λ n. spare n + clears_at (link_resets z) old.connected (g.units n).target)) (link-old i e) s)
       by false f q = cc
-  room-at ClearAck spare live owes s i e = goes-within i (target_acked (ts i)) false _ e (acked-goes g count ks ts j.reached.plan h i (ts i).link refl (owes i e)) spare s
-  room-at (Shown shown) spare live owes s i e = tt
-  room-at (ByteIn byte) spare live owes s i e = tt
-  room-at (ByteOut byte taken) spare live owes s i e = tt
-  room-at (Select target word settled) spare live owes s i e = tt
-  room-at (Reselect word by) spare live owes s i e = tt
-  room-at (SetAtn true) spare live owes s i e = tt
+  room-at ClearAck spare live needs s i e = goes-within i (target_acked (ts i)) false _ e (acked-goes g count ks ts j.reached.plan h i (ts i).link refl (needs i e)) spare s
+  room-at (Shown shown) spare live needs s i e = tt
+  room-at (ByteIn byte) spare live needs s i e = tt
+  room-at (ByteOut byte taken) spare live needs s i e = tt
+  room-at (Select target word settled) spare live needs s i e = tt
+  room-at (Reselect word by) spare live needs s i e = tt
+  room-at (SetAtn true) spare live needs s i e = tt
 
   -- ---- and as much to spare is left
   module _ (new : BusState) (ns : ℕ → Ticket) (same_rooms : (i : ℕ) → (device_at new i).rooms ≡ (device_at old i).rooms) (spare : ℕ → ℕ) where
@@ -176,9 +176,9 @@ module _ (g : Plan) (units : List RigUnit) (old : BusState) (ks : ℕ → Ticket
         (λ n. reset-clears n m.0 m.2.0 m.2.1 ∙ sym (ap (λ o. clears_at true o (g.units n).target) m.1)) s
 
 pub calls-have-room : CallsHaveRoom
-calls-have-room g units live old event new ks built spare j call owes below s =
-    let room : HasRoomFor old event = room-at g units old ks j built below event spare live owes s in
-    let follows = calls-move g units live old event new ks (record { joined = j; call = call; owes = owes; room = room }) in (
+calls-have-room g units live old event new ks built spare j call needs below s =
+    let room : HasRoomFor old event = room-at g units old ks j built below event spare live needs s in
+    let follows = calls-move g units live old event new ks (record { joined = j; call = call; needs = needs; room = room }) in (
       room,
       follows-left g units old ks j built below new (tickets_after g old event new ks) (rooms-stay units live old event new call) spare (resets_device old event) follows s,
     )

@@ -31,7 +31,7 @@ use Rattle.ticket_link.proofs.Tags.{apart-kept}
 use Rattle.bus_events.specs.Targets.{targets, HasRoom}
 use Rattle.bus_events.specs.Tickets as after
 use Rattle.bus_events.specs.Tickets.{tickets_after}
-use Rattle.bus_events.specs.Owed.{OwesChoice, OwesByte, OwesMessage, OwesAck, Owes, HasRoomToChoose, HasRoomFor}
+use Rattle.bus_events.specs.Needs.{NeedsChoice, NeedsByte, NeedsMessage, NeedsAck, Needs, HasRoomToChoose, HasRoomFor}
 use Rattle.bus_events.specs.TicketLaws.{AreJoined, Follows, CallsMove, CallsStayJoined}
 use Rattle.bus_events.proofs.Devices.{device-changed, device-becomes, link-is, roomy, same-target}
 use Rattle.bus_events.proofs.TicketCalls.{Goes, GoesBy, free-is, sent-goes, acked-goes, messaged_if, messaged-goes}
@@ -128,14 +128,14 @@ module _ (g : Plan) (units : List RigUnit) (old : BusState) (ks : ℕ → Ticket
 
   -- ---- Phase and Leave
   turns : (word : ℕ) (o : Option ℕ) → old.connected ≡ o → targets new ≡ targets (after_turn o word old) → link_on new ≡ link_on (after_turn o word old)
-      → ((i : ℕ) → old.connected ≡ Some i → OwesChoice old.atn (ts i).link) → ((i : ℕ) → old.connected ≡ Some i → HasRoomToChoose old i)
+      → ((i : ℕ) → old.connected ≡ Some i → NeedsChoice old.atn (ts i).link) → ((i : ℕ) → old.connected ≡ Some i → HasRoomToChoose old i)
       → FollowsBy (after.after_choice ks (link_phase (link_on old)) (link_on old) (link_on new))
-  turns word None e t l owes room = subst (λ z. FollowsBy (after.after_choice ks (link_phase z) z (link_on new))) (sym (free-link e)) (inl (refl, t))
-  turns word (Some i) e t l owes room =
+  turns word None e t l needs room = subst (λ z. FollowsBy (after.after_choice ks (link_phase z) z (link_on new))) (sym (free-link e)) (inl (refl, t))
+  turns word (Some i) e t l needs room =
       let d = turned old.atn word (device_at old i) in
       subst (λ z. FollowsBy (after.after_choice ks (link_phase z) z (link_on new))) (sym (link-old i e))
       (subst (λ z. FollowsBy (after.after_choice ks (link_phase (ts i).link) (ts i).link z)) (sym (l ∙ link-becomes old i d e (in-range i e)))
-      (follow i _ d.target (t ∙ device-becomes old i d (in-range i e)) (turned-goes g count ks old j.reached.plan h i word (holds i e) (owes i e) (room i e))))
+      (follow i _ d.target (t ∙ device-becomes old i d (in-range i e)) (turned-goes g count ks old j.reached.plan h i word (holds i e) (needs i e) (room i e))))
 
   -- ---- ByteIn
   byte-in : (byte : ℕ) (o : Option ℕ) → old.connected ≡ o → Some byte ≡ byte_of old → new ≡ after_byte_in o (Some byte) old → FollowsBy (after.after_sent ks (link_byte (link_on old)) (link_on old))
@@ -154,14 +154,14 @@ module _ (g : Plan) (units : List RigUnit) (old : BusState) (ks : ℕ → Ticket
 
   -- ---- ByteOut
   byte-out : (live : ℕ → Nexus → Option ℕ) (byte : ℕ) (taken : Bool) (o : Option ℕ) → old.connected ≡ o → taken ≡ link_takes (link_on old) → new ≡ after_byte_out live taken o byte old
-      → ((i : ℕ) → old.connected ≡ Some i → OwesByte g i ks (ts i).link (live i) byte) → FollowsBy (after.after_taken ks taken (link_on old) (link_on new))
-  byte-out live byte false o e f m owes = stays m
-  byte-out live byte true None e f m owes = absurd (let z : true ≡ false = f ∙ ap link_takes (free-link e) in cc)
-  byte-out live byte true (Some i) e f m owes =
+      → ((i : ℕ) → old.connected ≡ Some i → NeedsByte g i ks (ts i).link (live i) byte) → FollowsBy (after.after_taken ks taken (link_on old) (link_on new))
+  byte-out live byte false o e f m needs = stays m
+  byte-out live byte true None e f m needs = absurd (let z : true ≡ false = f ∙ ap link_takes (free-link e) in cc)
+  byte-out live byte true (Some i) e f m needs =
       let d = device_took live i (device_at old i) byte in
       subst (λ z. FollowsBy (after.after_taken ks true z (link_on new))) (sym (link-old i e))
       (subst (λ z. FollowsBy (after.after_taken ks true (ts i).link z)) (sym (ap link_on m ∙ link-becomes old i d e (in-range i e)))
-      (follow i _ d.target (ap targets m ∙ device-becomes old i d (in-range i e)) (took-goes g count ks ts j.reached.plan h j.apart i (live i) byte (sym (f ∙ ap link_takes (link-old i e))) (owes i e))))
+      (follow i _ d.target (ap targets m ∙ device-becomes old i d (in-range i e)) (took-goes g count ks ts j.reached.plan h j.apart i (live i) byte (sym (f ∙ ap link_takes (link-old i e))) (needs i e))))
 
   -- ---- Select and Reselect
   named-follows : (word : ℕ) (c : Candidate) → candidate_named units old word ≡ Some c → new ≡ reselected old word c → FollowsBy (after.after_reselection ks (link_on new))
@@ -208,14 +208,14 @@ module _ (g : Plan) (units : List RigUnit) (old : BusState) (ks : ℕ → Ticket
 
   -- ---- SetAtn and ClearAck
   tells : (o : Option ℕ) → old.connected ≡ o → new ≡ record (messaged (is_message_out (link_phase (link_on old))) o old) { atn = false }
-      → ((i : ℕ) → old.connected ≡ Some i → OwesMessage g i ks (ts i).link) → ((i : ℕ) → old.connected ≡ Some i → is_message_out (link_phase (ts i).link) ≡ true → HasRoom old i (target_messaged (ts i)))
+      → ((i : ℕ) → old.connected ≡ Some i → NeedsMessage g i ks (ts i).link) → ((i : ℕ) → old.connected ≡ Some i → is_message_out (link_phase (ts i).link) ≡ true → HasRoom old i (target_messaged (ts i)))
       → Follows (after.link_resets (link_on old)) old.connected g count ks ts (after.after_attention g old o ks) (targets new)
-  tells None e m owes room =
+  tells None e m needs room =
       subst (λ z. Follows (after.link_resets z) old.connected g count ks ts ks (targets new)) (sym (free-link e)) (inl (refl, ap targets m ∙ ap (λ z. targets (messaged (is_message_out (link_phase z)) None old)) (free-link e)))
-  tells (Some i) e m owes room =
+  tells (Some i) e m needs room =
       let made : targets new ≡ targets (messaged (is_message_out (link_phase (ts i).link)) (Some i) old) = ap targets m ∙ ap (λ z. targets (messaged (is_message_out (link_phase z)) (Some i) old)) (link-old i e) in
       subst (λ z. Follows (after.link_resets z) old.connected g count ks ts (after.after_attention g old (Some i) ks) (targets new)) (sym (link-old i e))
-      (by (is_message_out (link_phase (ts i).link)) refl made (messaged-goes g count ks ts j.reached.plan h i (ts i).link refl (owes i e)))
+      (by (is_message_out (link_phase (ts i).link)) refl made (messaged-goes g count ks ts j.reached.plan h i (ts i).link refl (needs i e)))
     where
       by : (b : Bool) → is_message_out (link_phase (ts i).link) ≡ b → targets new ≡ targets (messaged b (Some i) old) → GoesBy g count ks ts j.reached.plan h i (after.link_resets (ts i).link) (after.after_message ks g i (ts i) b (ts i).link) (messaged_if g count ks ts j.reached.plan h i b)
           → Follows (after.link_resets (ts i).link) old.connected g count ks ts (after.after_message ks g i (ts i) b (ts i).link) (targets new)
@@ -224,32 +224,32 @@ module _ (g : Plan) (units : List RigUnit) (old : BusState) (ks : ℕ → Ticket
           (t ∙ device-becomes old i (device_messaged (device_at old i)) (in-range i e) ∙ ap (λ (y : DeviceState). with_at ts i y.target) (roomy (device_at old i) (target_messaged (ts i)) (room i e s))) e q
       by false s t q = follow-by i (after.link_resets (ts i).link) _ (ts i) (t ∙ sym (same-target ts i)) e q
 
-  acknowledges : (ack : Bool) (o : Option ℕ) → old.connected ≡ o → new ≡ after_ack ack old → ((i : ℕ) → old.connected ≡ Some i → OwesAck g i ks (ts i).link)
+  acknowledges : (ack : Bool) (o : Option ℕ) → old.connected ≡ o → new ≡ after_ack ack old → ((i : ℕ) → old.connected ≡ Some i → NeedsAck g i ks (ts i).link)
       → ((i : ℕ) → old.connected ≡ Some i → HasRoom old i (target_acked (ts i))) → FollowsBy (after.after_ack ks ack (link_on old))
-  acknowledges false o e m owes room = stays m
-  acknowledges true None e m owes room = subst (λ z. FollowsBy (after.after_ack ks true z)) (sym (free-link e)) (inl (refl, ap targets m ∙ ap (λ z. targets (acked z old)) e))
-  acknowledges true (Some i) e m owes room =
+  acknowledges false o e m needs room = stays m
+  acknowledges true None e m needs room = subst (λ z. FollowsBy (after.after_ack ks true z)) (sym (free-link e)) (inl (refl, ap targets m ∙ ap (λ z. targets (acked z old)) e))
+  acknowledges true (Some i) e m needs room =
       subst (λ z. FollowsBy (after.after_ack ks true z)) (sym (link-old i e))
       (follow i _ (target_acked (ts i))
       (ap targets m ∙ ap (λ z. targets (acked z old)) e ∙ device-becomes old i (device_acked (device_at old i)) (in-range i e)
       ∙ ap (λ (y : DeviceState). with_at ts i y.target) (roomy (device_at old i) (target_acked (ts i)) (room i e)))
-      (acked-goes g count ks ts j.reached.plan h i (ts i).link refl (owes i e)))
+      (acked-goes g count ks ts j.reached.plan h i (ts i).link refl (needs i e)))
 
-  follows : (live : ℕ → Nexus → Option ℕ) (event : Event) → moves units live old event new → Owes g live old event ks → HasRoomFor old event → Follows (after.resets_device old event) old.connected g count ks ts (tickets_after g old event new ks) (targets new)
-  follows live (Phase word shown) m owes room = turns word old.connected refl (ap targets m.1) (ap link_on m.1) owes room
-  follows live (Shown shown) m owes room = stays m.1
-  follows live (ByteIn None) m owes room = no-byte-in old.connected m.1
-  follows live (ByteIn (Some byte)) m owes room = byte-in byte old.connected refl m.0 m.1
-  follows live (ByteOut byte taken) m owes room = byte-out live byte taken old.connected refl m.0 m.1 owes
-  follows live (Select target word settled) m owes room = select target word (candidate_named units old word) (can_select old target) settled refl refl m.0 m.1
-  follows live (Reselect word by) m owes room = reselect word (candidate_named units old word) by refl m.0 m.1
-  follows live (SetAtn true) m owes room = inl (refl, ap targets m)
-  follows live (SetAtn false) m owes room = tells old.connected refl m owes room
-  follows live ClearAck m owes room = acknowledges old.ack old.connected refl m owes room
-  follows live (Leave word gone) m owes room = turns word old.connected refl (ap targets m.1) (ap link_on m.1) owes room
+  follows : (live : ℕ → Nexus → Option ℕ) (event : Event) → moves units live old event new → Needs g live old event ks → HasRoomFor old event → Follows (after.resets_device old event) old.connected g count ks ts (tickets_after g old event new ks) (targets new)
+  follows live (Phase word shown) m needs room = turns word old.connected refl (ap targets m.1) (ap link_on m.1) needs room
+  follows live (Shown shown) m needs room = stays m.1
+  follows live (ByteIn None) m needs room = no-byte-in old.connected m.1
+  follows live (ByteIn (Some byte)) m needs room = byte-in byte old.connected refl m.0 m.1
+  follows live (ByteOut byte taken) m needs room = byte-out live byte taken old.connected refl m.0 m.1 needs
+  follows live (Select target word settled) m needs room = select target word (candidate_named units old word) (can_select old target) settled refl refl m.0 m.1
+  follows live (Reselect word by) m needs room = reselect word (candidate_named units old word) by refl m.0 m.1
+  follows live (SetAtn true) m needs room = inl (refl, ap targets m)
+  follows live (SetAtn false) m needs room = tells old.connected refl m needs room
+  follows live ClearAck m needs room = acknowledges old.ack old.connected refl m needs room
+  follows live (Leave word gone) m needs room = turns word old.connected refl (ap targets m.1) (ap link_on m.1) needs room
 
 pub calls-move : CallsMove
-calls-move g units live old event new ks c = follows g units old ks c.joined new live event c.call c.owes c.room
+calls-move g units live old event new ks c = follows g units old ks c.joined new live event c.call c.needs c.room
 
 -- ---- what holds goes on
 free-tag : {g : Plan} {count : ℕ} {ks : ℕ → Ticket} {ts : ℕ → Target} {ns : ℕ → Ticket} {us : ℕ → Target} (m : Moves g count ks ts ns us) → IsCall m → TakesFreeTag m

@@ -27,7 +27,7 @@ use Rattle.ticket_fate.proofs.Targets.{at-lun, unit-of-work}
 use Rattle.ticket_link.specs.CallMoves.{CallMoves}
 use Rattle.ticket_link.specs.Tags.{TagsApart}
 use Rattle.bus_events.specs.Tickets.{begun_life, comes, after_taken}
-use Rattle.bus_events.specs.Owed.{IsToBegin, OwesByte, OwesCommand}
+use Rattle.bus_events.specs.Needs.{IsToBegin, NeedsByte, NeedsCommand}
 use Rattle.bus_events.proofs.TicketCalls.{Goes, relinked, link-kept, task-taken}
 
 -- the connection of a command that has begun
@@ -119,37 +119,37 @@ module _ (g : Plan) (count : ℕ) (ks : ℕ → Ticket) (ts : ℕ → Target) (p
         let r = either-begins x n u q.target q.lun q.tag e idle (cdb_of bytes) q.asks in
         subst (λ l. Comes (after_taken ks true (TakingCommand n bytes) l) (begun t n (cdb_of bytes) u x)) (sym r.0) (inr r.1)
 
-    command-goes : (live : Option ℕ) (o : Option ℕ) → where_placed (has_place (unit_at (ts i).units n.lun) n.tag) live ≡ o → OwesCommand g i ks n bytes live → is_whole bytes ≡ true
+    command-goes : (live : Option ℕ) (o : Option ℕ) → where_placed (has_place (unit_at (ts i).units n.lun) n.tag) live ≡ o → NeedsCommand g i ks n bytes live → is_whole bytes ≡ true
         → Comes (after_taken ks true (TakingCommand n bytes) (begun_with t n (cdb_of bytes) o).link) (begun_with t n (cdb_of bytes) o)
-    command-goes live None e owes whole = free-goes
-    command-goes live (Some x) e owes whole =
+    command-goes live None e needs whole = free-goes
+    command-goes live (Some x) e needs whole =
         let p = placed (has_place (unit_at (ts i).units n.lun) n.tag) live x e in
         let u = there (unit_at (ts i).units n.lun) p.0 in
         let q = at-lun t n.lun (λ v. begun t n (cdb_of bytes) v x) u.0 u.1 in
-        subst (λ z. Comes (after_taken ks true (TakingCommand n bytes) z.link) z) (sym q) (begun-goes x (owes x p.1 whole) u.0 u.1)
+        subst (λ z. Comes (after_taken ks true (TakingCommand n bytes) z.link) z) (sym q) (begun-goes x (needs x p.1 whole) u.0 u.1)
 
-    whole-goes : (lv : Nexus → Option ℕ) (b : Bool) → is_whole bytes ≡ b → OwesCommand g i ks n bytes (lv n) → Comes (after_taken ks true (TakingCommand n bytes) (begins_if lv b t).link) (begins_if lv b t)
+    whole-goes : (lv : Nexus → Option ℕ) (b : Bool) → is_whole bytes ≡ b → NeedsCommand g i ks n bytes (lv n) → Comes (after_taken ks true (TakingCommand n bytes) (begins_if lv b t).link) (begins_if lv b t)
     unfolding target_begun
-    whole-goes lv false e owes = relinked g count ks ts plan h i t idle (TakingCommand n bytes, tt, tt, refl)
-    whole-goes lv true e owes = command-goes (lv n) (where_placed (has_place (unit_at (ts i).units n.lun) n.tag) (lv n)) refl owes e
+    whole-goes lv false e needs = relinked g count ks ts plan h i t idle (TakingCommand n bytes, tt, tt, refl)
+    whole-goes lv true e needs = command-goes (lv n) (where_placed (has_place (unit_at (ts i).units n.lun) n.tag) (lv n)) refl needs e
 
   -- by the link
   abbrev taken_by : (Nexus → Option ℕ) → ConnectionState → ℕ → Target
   taken_by lv l b = begins_if lv (whole_by (link_took l b)) (linked (ts i) (link_took l b))
 
-  taken-goes : (lv : Nexus → Option ℕ) (l : ConnectionState) (b : ℕ) → (ts i).link ≡ l → link_takes l ≡ true → OwesByte g i ks l lv b → Comes (after_taken ks true l (taken_by lv l b).link) (taken_by lv l b)
-  taken-goes lv BusFree b e f owes = absurd cc
-  taken-goes lv (connection_state.Selected heard) b e f owes =
+  taken-goes : (lv : Nexus → Option ℕ) (l : ConnectionState) (b : ℕ) → (ts i).link ≡ l → link_takes l ≡ true → NeedsByte g i ks l lv b → Comes (after_taken ks true l (taken_by lv l b).link) (taken_by lv l b)
+  taken-goes lv BusFree b e f needs = absurd cc
+  taken-goes lv (connection_state.Selected heard) b e f needs =
       relinked g count ks ts plan h i (linked (ts i) (connection_state.Selected (hears heard b))) (subst IsIdle (sym e) tt) (connection_state.Selected (hears heard b), tt, tt, refl)
-  taken-goes lv (TakingCommand n taken) b e f owes = whole-goes n (taken ++ b ∷ []) (subst IsIdle (sym e) tt) lv (is_whole (taken ++ b ∷ [])) refl owes
-  taken-goes lv (TaskConnected c) b e f owes = task-taken g count ks ts plan h i c e b f owes
-  taken-goes lv (RogueConnected s n) b e f owes =
+  taken-goes lv (TakingCommand n taken) b e f needs = whole-goes n (taken ++ b ∷ []) (subst IsIdle (sym e) tt) lv (is_whole (taken ++ b ∷ [])) refl needs
+  taken-goes lv (TaskConnected c) b e f needs = task-taken g count ks ts plan h i c e b f needs
+  taken-goes lv (RogueConnected s n) b e f needs =
       relinked g count ks ts plan h i (linked (ts i) (RogueConnected (rogue_took s b) n)) (subst IsIdle (sym e) tt) (RogueConnected (rogue_took s b) n, tt, link-kept g count ks ts plan h i (RogueConnected s n) e, refl)
 
   took-is : (lv : Nexus → Option ℕ) (b : ℕ) → link_takes (ts i).link ≡ true → target_took lv (ts i) b ≡ taken_by lv (ts i).link b
   unfolding target_took
   took-is lv b f = ap (λ z. took_where lv z (ts i) b) f
 
-  pub took-goes : (lv : Nexus → Option ℕ) (b : ℕ) → link_takes (ts i).link ≡ true → OwesByte g i ks (ts i).link lv b
+  pub took-goes : (lv : Nexus → Option ℕ) (b : ℕ) → link_takes (ts i).link ≡ true → NeedsByte g i ks (ts i).link lv b
       → Comes (after_taken ks true (ts i).link (target_took lv (ts i) b).link) (target_took lv (ts i) b)
-  took-goes lv b f owes = subst (λ z. Comes (after_taken ks true (ts i).link z.link) z) (sym (took-is lv b f)) (taken-goes lv (ts i).link b refl f owes)
+  took-goes lv b f needs = subst (λ z. Comes (after_taken ks true (ts i).link z.link) z) (sym (took-is lv b f)) (taken-goes lv (ts i).link b refl f needs)

@@ -39,7 +39,7 @@ use Rattle.ticket_link.proofs.IdleCalls.{idle-calls-relink}
 use Rattle.plain_lun.proofs.Laws.{wants-most}
 use Rattle.bus_events.specs.Targets.{targets}
 use Rattle.bus_events.specs.Tickets.{after_choice}
-use Rattle.bus_events.specs.Owed.{OwesChoice, HasRoomToChoose}
+use Rattle.bus_events.specs.Needs.{NeedsChoice, HasRoomToChoose}
 use Rattle.bus_events.proofs.Devices.{roomy}
 use Rattle.bus_events.proofs.TicketCalls.{Goes, relinked, link-kept, own-unit, own-sound}
 
@@ -159,17 +159,17 @@ module _ (g : Plan) (count : ℕ) (ks : ℕ → Ticket) (b : BusState) (plan : I
         choice-of : (sh : TaskPhase) → sh ≡ ToChoose → IsWorth sh (session unit.0 c) → Choosable (session unit.0 c)
         choice-of sh e w = subst (λ z. IsWorth z (session unit.0 c)) e w
 
-    choice-turn : (atn : Bool) → c.shows ≡ ToChoose → OwesChoice atn (TaskConnected c) → HasRoomToChoose b i → Turns None atn word (TaskConnected c)
-    choice-turn true e owes room = hears-turn e owes
-    choice-turn false e owes room = moves-turn e room
+    choice-turn : (atn : Bool) → c.shows ≡ ToChoose → NeedsChoice atn (TaskConnected c) → HasRoomToChoose b i → Turns None atn word (TaskConnected c)
+    choice-turn true e needs room = hears-turn e needs
+    choice-turn false e needs room = moves-turn e room
 
-    task-turn : (atn : Bool) (sh : TaskPhase) → c.shows ≡ sh → OwesChoice atn (TaskConnected c) → HasRoomToChoose b i → Turns (phase_of sh) atn word (TaskConnected c)
-    task-turn atn ToChoose e owes room = choice-turn atn e owes room
-    task-turn atn MessageOut e owes room = inl (refl, refl)
-    task-turn atn (DataIn n) e owes room = inl (refl, refl)
-    task-turn atn (DataOut n) e owes room = inl (refl, refl)
-    task-turn atn (Status v) e owes room = inl (refl, refl)
-    task-turn atn (MessageIn n s) e owes room = inl (refl, refl)
+    task-turn : (atn : Bool) (sh : TaskPhase) → c.shows ≡ sh → NeedsChoice atn (TaskConnected c) → HasRoomToChoose b i → Turns (phase_of sh) atn word (TaskConnected c)
+    task-turn atn ToChoose e needs room = choice-turn atn e needs room
+    task-turn atn MessageOut e needs room = inl (refl, refl)
+    task-turn atn (DataIn n) e needs room = inl (refl, refl)
+    task-turn atn (DataOut n) e needs room = inl (refl, refl)
+    task-turn atn (Status v) e needs room = inl (refl, refl)
+    task-turn atn (MessageIn n s) e needs room = inl (refl, refl)
 
   -- ---- a unit that breaks the rules
   left-relinks : (y : DeviceState) → Relinks g i d.target y.target → Relinks g i d.target (left_where y).target
@@ -217,13 +217,13 @@ module _ (g : Plan) (count : ℕ) (ks : ℕ → Ticket) (b : BusState) (plan : I
   rogue-turn atn word (rogue_shows.MessageIn v sent) n e = inl (refl, refl)
   rogue-turn atn word (rogue_shows.Reselection p sent) n e = inl (refl, refl)
 
-  turn-goes : (l : ConnectionState) (atn : Bool) (word : ℕ) → d.target.link ≡ l → is_free l ≡ false → OwesChoice atn l → HasRoomToChoose b i → Turns (link_phase l) atn word l
-  turn-goes BusFree atn word e f owes room = absurd cc
-  turn-goes (connection_state.Selected bytes) atn word e f owes room = inl (refl, refl)
-  turn-goes (TakingCommand n taken) atn word e f owes room = inl (refl, refl)
-  turn-goes (TaskConnected c) atn word e f owes room = task-turn c e word atn c.shows refl owes room
-  turn-goes (RogueConnected s n) atn word e f owes room = rogue-turn atn word s n e
+  turn-goes : (l : ConnectionState) (atn : Bool) (word : ℕ) → d.target.link ≡ l → is_free l ≡ false → NeedsChoice atn l → HasRoomToChoose b i → Turns (link_phase l) atn word l
+  turn-goes BusFree atn word e f needs room = absurd cc
+  turn-goes (connection_state.Selected bytes) atn word e f needs room = inl (refl, refl)
+  turn-goes (TakingCommand n taken) atn word e f needs room = inl (refl, refl)
+  turn-goes (TaskConnected c) atn word e f needs room = task-turn c e word atn c.shows refl needs room
+  turn-goes (RogueConnected s n) atn word e f needs room = rogue-turn atn word s n e
 
-  pub turned-goes : (word : ℕ) → is_free d.target.link ≡ false → OwesChoice b.atn d.target.link → HasRoomToChoose b i
+  pub turned-goes : (word : ℕ) → is_free d.target.link ≡ false → NeedsChoice b.atn d.target.link → HasRoomToChoose b i
       → Comes (after_choice ks (link_phase d.target.link) d.target.link (turned b.atn word d).target.link) (turned b.atn word d).target
-  turned-goes word f owes room = turn-goes d.target.link b.atn word refl f owes room
+  turned-goes word f needs room = turn-goes d.target.link b.atn word refl f needs room

@@ -1,7 +1,7 @@
 pub mod Targets
 pub mod Laws
 pub mod Tickets
-pub mod Owed
+pub mod Needs
 pub mod TicketLaws
 pub mod Rooms
 pub mod BusResets

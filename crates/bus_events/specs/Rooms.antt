@@ -12,7 +12,7 @@ use Rattle.ticket_fate.specs.Histories.{count_if}
 use Rattle.ticket_room.specs.Rooms.{AreBelow, HasSpare, HasLog}
 use Rattle.bus_events.specs.Targets.{targets}
 use Rattle.bus_events.specs.Tickets.{resets_device, tickets_after}
-use Rattle.bus_events.specs.Owed.{Owes, HasRoomFor}
+use Rattle.bus_events.specs.Needs.{Needs, HasRoomFor}
 use Rattle.bus_events.specs.TicketLaws.{AreJoined}
 
 -- each unit's log has room for all that its live tickets may still log, and for so many entries more, by unit
@@ -28,6 +28,6 @@ clears_at resets connected target = 0
 -- then the call has room, and as much to spare is left, but for those Clears
 abbrev pub CallsHaveRoom : Type 0
 CallsHaveRoom = (g : Plan) (units : List RigUnit) (live : ℕ → Nexus → Option ℕ) (old : BusState) (event : Event) (new : BusState) (ks : ℕ → Ticket) (built : ℕ) (spare : ℕ → ℕ)
-    → AreJoined g units old ks → moves units live old event new → Owes g live old event ks → AreBelow built ks
+    → AreJoined g units old ks → moves units live old event new → Needs g live old event ks → AreBelow built ks
     → AreReserved g units built old ks (λ n. spare n + clears_at (resets_device old event) old.connected (g.units n).target)
     → HasRoomFor old event × AreReserved g units built new (tickets_after g old event new ks) spare

@@ -14,7 +14,7 @@ use Rattle.ticket_link.specs.CallMoves.{CallMoves, DeviceResetMoves}
 use Rattle.ticket_link.specs.Tags.{TagsApart}
 use Rattle.bus_events.specs.Targets.{targets}
 use Rattle.bus_events.specs.Tickets.{resets_device, tickets_after}
-use Rattle.bus_events.specs.Owed.{Owes, HasRoomFor}
+use Rattle.bus_events.specs.Needs.{Needs, HasRoomFor}
 
 -- the tickets and the targets of the bus are such as a list of moves reaches, over the units of the rig; a tag of a unit names one live
 -- ticket; one target is connected, or none; and the bus has no unit but those of the rig
@@ -31,20 +31,20 @@ Follows false connected g count ks ts ns us = ((ns ≡ ks) × (us ≡ ts)) ⊎ C
 Follows true connected g count ks ts ns us = (i : ℕ) × (connected ≡ Some i) × DeviceResetMoves i g count ks ts ns us
 
 -- a call of the bus, with what it asks
-pub record OwedCall (g : Plan) (units : List RigUnit) (live : ℕ → Nexus → Option ℕ) (old : BusState) (event : Event) (new : BusState) (ks : ℕ → Ticket) : Type 0 where
+pub record NeedingCall (g : Plan) (units : List RigUnit) (live : ℕ → Nexus → Option ℕ) (old : BusState) (event : Event) (new : BusState) (ks : ℕ → Ticket) : Type 0 where
   pub joined : AreJoined g units old ks
   pub call : moves units live old event new
-  pub owes : Owes g live old event ks
+  pub needs : Needs g live old event ks
   pub room : HasRoomFor old event
 
 -- each call of the bus is one move at most, of the tickets as `tickets_after` says and of the bus's targets
 abbrev pub CallsMove : Type 0
-CallsMove = (g : Plan) (units : List RigUnit) (live : ℕ → Nexus → Option ℕ) (old : BusState) (event : Event) (new : BusState) (ks : ℕ → Ticket) → OwedCall g units live old event new ks
+CallsMove = (g : Plan) (units : List RigUnit) (live : ℕ → Nexus → Option ℕ) (old : BusState) (event : Event) (new : BusState) (ks : ℕ → Ticket) → NeedingCall g units live old event new ks
     → Follows (resets_device old event) old.connected g (length units) ks (targets old) (tickets_after g old event new ks) (targets new)
 
 -- so what holds of tickets and targets goes on
 abbrev pub CallsStayJoined : Type 0
-CallsStayJoined = (g : Plan) (units : List RigUnit) (live : ℕ → Nexus → Option ℕ) (old : BusState) (event : Event) (new : BusState) (ks : ℕ → Ticket) → OwedCall g units live old event new ks
+CallsStayJoined = (g : Plan) (units : List RigUnit) (live : ℕ → Nexus → Option ℕ) (old : BusState) (event : Event) (new : BusState) (ks : ℕ → Ticket) → NeedingCall g units live old event new ks
     → AreJoined g units new (tickets_after g old event new ks)
 
 -- a target that is selected has a unit that is there; where a selection times out on a free bus, every unit of the target is absent

@@ -34,8 +34,8 @@ use Rattle.ticket_room.specs.Rooms.{AreBelow, HasSpare, clears_in}
 use Rattle.ticket_room.proofs.Moves.{logs-stay-within}
 use Rattle.bus_events.specs.Targets.{targets}
 use Rattle.bus_events.specs.Tickets.{resets_device, tickets_after}
-use Rattle.bus_events.specs.Owed.{HasRoomFor}
-use Rattle.bus_events.specs.TicketLaws.{AreJoined, Follows, OwedCall}
+use Rattle.bus_events.specs.Needs.{HasRoomFor}
+use Rattle.bus_events.specs.TicketLaws.{AreJoined, Follows, NeedingCall}
 use Rattle.bus_events.specs.Rooms.{AreReserved, clears_at}
 use Rattle.bus_events.specs.BusResets.{HasPlaces, history_on}
 use Rattle.bus_events.proofs.CallsMove.{calls-move, calls-stay-joined}
@@ -52,7 +52,7 @@ use Rattle.run_joined.specs.ChipCalls.{TicketBus, Calls, OwnMoves, steps, writes
 use Rattle.run_joined.specs.ChipCalls as own_moves
 use Rattle.run_joined.proofs.ChipSteps.{chip-leaves-desk}
 use Rattle.run_joined.proofs.Rigs.{rig-stays, desk-stays}
-use Rattle.run_joined.proofs.Told.{by_change, by_move, changes-move, history-of, or-none, count-none}
+use Rattle.run_joined.proofs.Matching.{by_change, by_move, changes-move, history-of, or-none, count-none}
 use Rattle.run_joined.proofs.Moved.{lives-so, way-so, desk-with, world-log, unit-is, plan}
 
 -- ---- what a move says of a ticket that it doesn't mark: its Clears, where it is under way
@@ -240,10 +240,10 @@ module _ (g : BenchSetting) (p : Plan) (caused : ℕ → Bool) (old : World) (ks
       roomy n less u h = let s = a.reserved n less u h in omega (arith, s, c.room n)
 
       room : HasRoomFor x.bus e × AreReserved p g.units built y.bus (tickets_after p x.bus e y.bus x.tickets) y.spare
-      room = calls-have-room p g.units live_at x.bus e y.bus x.tickets built y.spare a.joined c.call c.owes a.silent.desk.unbuilt roomy
+      room = calls-have-room p g.units live_at x.bus e y.bus x.tickets built y.spare a.joined c.call c.needs a.silent.desk.unbuilt roomy
 
-      call : OwedCall p g.units live_at x.bus e y.bus x.tickets
-      call = record { joined = a.joined; call = c.call; owes = c.owes; room = room.0 }
+      call : NeedingCall p g.units live_at x.bus e y.bus x.tickets
+      call = record { joined = a.joined; call = c.call; needs = c.needs; room = room.0 }
 
       silent-on : (b : Bool) → resets_device x.bus e ≡ b → Follows b x.bus.connected p (length g.units) x.tickets (targets x.bus) (tickets_after p x.bus e y.bus x.tickets) (targets y.bus)
           → Silent (tickets_after p x.bus e y.bus x.tickets) (targets y.bus)

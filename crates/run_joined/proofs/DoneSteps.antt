@@ -16,7 +16,7 @@ use Rattle.ticket_fate.specs.Tickets.{Plan, Life, Lost, Rejected, Finished, Chec
 use Rattle.unit_law.specs.Log.{with_at}
 use Rattle.ticket_fate.specs.Moves as step
 use Rattle.ticket_fate.specs.Histories.{progress_of}
-use Rattle.run_joined.specs.DeskLives.{IsStage, outcome_of, IsCounted, IsKept, DeskJoined, StepsTo, WordsTell, IsSwept, DoneStepsMove}
+use Rattle.run_joined.specs.DeskLives.{IsStage, outcome_of, IsCounted, IsKept, DeskJoined, StepsTo, WordsAgree, IsLostToReset, DoneStepsMove}
 use Rattle.run_joined.proofs.DeskSteps.{replaced}
 
 -- whether a ticket is asked for its sense, by its life
@@ -83,7 +83,7 @@ module _ (p : Plan) (d : DeskState) (ks : ℕ → Ticket) (j : DeskJoined p d ks
           joined = λ v. ends-with Done (record (ended x Done) { sensed = true }) k (flagged true (is_again d m x) (is_check d m x) (sensing-only x.stage (stage-at Asked e)) refl refl) refl refl refl refl refl refl refl refl (counted-at Asked e);
         }
 
-    rejected : (st : Status) (b : Bool) → (ks t).life ≡ Rejected st → is_again d m x ≡ b → WordsTell p d m t x (ks t) (Rejected st) → StepsTo p t ks (takes d m t)
+    rejected : (st : Status) (b : Bool) → (ks t).life ≡ Rejected st → is_again d m x ≡ b → WordsAgree p d m t x (ks t) (Rejected st) → StepsTo p t ks (takes d m t)
     rejected st true e a w = record {
       to = λ v. with_life (ks t) ToRequeue;
       step = λ v. step.takes_again st e (few (ks t).tries p.retries (sym w.0 ∙ a));
@@ -104,7 +104,7 @@ module _ (p : Plan) (d : DeskState) (ks : ℕ → Ticket) (j : DeskJoined p d ks
           joined = λ v. ends-with Done (ended x o) (with_life (ks t) (Ended Done)) (flagged false false false (queued-only x.stage (stage-at (Rejected st) e)) a w.1) (ap stage.Ended w.2) (ap Some w.2) refl refl refl refl refl refl (counted-at (Rejected st) e);
         }
 
-    finished : (o : Outcome) (b : Bool) → (ks t).life ≡ Finished o → is_check d m x ≡ b → WordsTell p d m t x (ks t) (Finished o) → StepsTo p t ks (takes d m t)
+    finished : (o : Outcome) (b : Bool) → (ks t).life ≡ Finished o → is_check d m x ≡ b → WordsAgree p d m t x (ks t) (Finished o) → StepsTo p t ks (takes d m t)
     finished o true e c w =
         let q = w.1 c in
         record {
@@ -150,7 +150,7 @@ module _ (p : Plan) (d : DeskState) (ks : ℕ → Ticket) (j : DeskJoined p d ks
           joined = λ v. ends-with o (ended x o) (with_life (ks t) (Ended o)) (flagged false false false (rogue-only x.stage (stage-at AtRogue e)) a c) refl refl refl refl refl refl refl refl (counted-at AtRogue e);
         }
 
-    done : (a : Life) → (ks t).life ≡ a → WordsTell p d m t x (ks t) a → StepsTo p t ks (takes d m t)
+    done : (a : Life) → (ks t).life ≡ a → WordsAgree p d m t x (ks t) a → StepsTo p t ks (takes d m t)
     done Asked e w = asked e
     done (Rejected st) e w = rejected st (is_again d m x) e refl w
     done (Finished o) e w = finished o (is_check d m x) e refl w
@@ -172,7 +172,7 @@ module _ (p : Plan) (d : DeskState) (ks : ℕ → Ticket) (j : DeskJoined p d ks
         counted_is = still-counted o k life tries some;
       })
 
-  sweep : (a : Life) → (ks t).life ≡ a → IsSwept a (is_sensing x.stage) (is_rogue d x) → StepsTo p t ks (ends d t swept_outcome)
+  sweep : (a : Life) → (ks t).life ≡ a → IsLostToReset a (is_sensing x.stage) (is_rogue d x) → StepsTo p t ks (ends d t swept_outcome)
   sweep Lost e w = record {
     to = λ v. with_life (ks t) (Ended Reset);
     step = λ v. step.sweeps e;

@@ -76,7 +76,7 @@ use Rattle.run_joined.specs.Joined.{IsDeskOf, IsJoined, StepJoins, is_by_words, 
 use Rattle.run_joined.proofs.Rigs.{SameRig, same-rig, as-before, as-made, rig-stays, desk-stays}
 use Rattle.run_joined.proofs.DeskSteps.{desk-steps-move}
 use Rattle.run_joined.proofs.ChipSteps.{chip-leaves-desk, bus-reset-leaves-desk}
-use Rattle.run_joined.proofs.Told.{by_change, by_move, changes-move, history-of, or-none, count-none, silent-change}
+use Rattle.run_joined.proofs.Matching.{by_change, by_move, changes-move, history-of, or-none, count-none, silent-change}
 use Rattle.run_joined.proofs.Moved.{below-or, lives-so, way-so, not-new, rejoined, log-same, no-word, IsQuiet, Notes, own-unit, plan, kept, below, moved-on, joined-by, by-move, by-ticket, by-nothing, says-no-more, unit-is, within-depth, desk-with, world-log, quiet, one-ticket, still}
 
 same-test : (a c : ℕ) → (a == c) ≡ (c == a)

@@ -1,5 +1,5 @@
 -- Runs are joined step by step, and what follows for their reports.
-use Rattle.std.proofs.Common.{◌≡◌, ℕ, ◌<◌, Bool, true, false, List, [], ◌∷◌, ◌++◌, length, Some, None, refl, sym, ap, subst, ◌∙◌, ◌⊎◌, inl, inr}
+use Rattle.std.proofs.Common.{◌≡◌, ℕ, ◌<◌, Bool, true, false, List, [], ◌∷◌, ◌++◌, length, Option, Some, None, refl, sym, ap, subst, ◌∙◌, ◌⊎◌, inl, inr}
 use Rattle.std.specs.Prelude.{not}
 use Rattle.rig_types.specs.declared.report.Outcome.{Outcome}
 use Rattle.unit_law.specs.Report.{TicketHistory, Fits, SenseFits}
@@ -27,12 +27,12 @@ use Rattle.word_owners.proofs.Worlds.{depths_are_kept}
 use Rattle.run_joined.specs.DeskLives.{IsStage, outcome_of}
 use Rattle.run_joined.specs.Plans.{IsPlanOf}
 use Rattle.run_joined.specs.Joined.{IsJoined, no_tickets, StepJoins, is_by_words}
-use Rattle.run_joined.specs.JoinedRuns.{RunJoins, WordsJoin, RunsJoin, FreedFits, RunsItsLog, JoinedRunsFit}
+use Rattle.run_joined.specs.JoinedRuns.{RunJoins, IsJoinedRun, WordsJoin, RunsJoin, FreedFits, RunsItsLog, JoinedRunsFit}
 use Rattle.run_joined.proofs.DriverSteps.{driver-steps-join}
 use Rattle.run_joined.proofs.Moved.{lives-so}
 use Rattle.run_joined.proofs.Opening.{opening-is-joined}
 use Rattle.run_joined.proofs.Plans.{plans-stay}
-use Rattle.run_joined.proofs.Told.{none-noted}
+use Rattle.run_joined.proofs.Matching.{none-noted}
 
 -- ---- lists of moves one behind the other
 appended : {p : Plan} {count : ℕ} {ks : ℕ → Ticket} {ts : ℕ → Target} {ms : ℕ → Ticket} {vs : ℕ → Target} {ns : ℕ → Ticket} {us : ℕ → Target} → Run p count ks ts ms vs → Run p count ms vs ns us → Run p count ks ts ns us
@@ -79,25 +79,21 @@ module _ (g : BenchSetting) (p : Plan) (setting_of : IsBenchSetting g) (bytes : 
       let z = subst (RunTo g p (ns ++ m ∷ []) x.tickets x.spare) (sym (ends_after (opened g) ns m)) here in
       record { spare = x.spare; opens = j.opens; moves = z.moves; joined = z.joined; histories = z.histories }
 
-  -- a step is joined: by the driver, or by the words
-  one-step : (ns : List Moment) (m : Moment) (ks : ℕ → Ticket) → IsRun g (opened g) ns → Steps g (last (opened g) ns) m → IsPlanOf g m.after p → (b : Bool) → is_by_words m.entry.step ≡ b → RunJoins g p ns ks
-      → StepJoins g p (last (opened g) ns) m ks
-  one-step ns m ks r s of true e j = words ns m ks r s e j
-  one-step ns m ks r s of false e j =
+  -- a step by the words, or one of the driver
+  one-step : (ns : List Moment) (m : Moment) → IsRun g (opened g) ns → Steps g (last (opened g) ns) m → IsPlanOf g m.after p → IsJoinedRun g p ns → (b : Bool) → is_by_words m.entry.step ≡ b → IsJoinedRun g p (ns ++ m ∷ [])
+  one-step ns m r s of x true e = words ns m r s e x
+  one-step ns m r s of (ks, j) false e =
       let after : AreKept m.after.desk = subst (λ (w : World). AreKept w.desk) (ends_after (opened g) ns m) (depths_are_kept g setting_of bytes (ns ++ m ∷ []) (goes_on g (opened g) ns m r s)) in
-      driver-steps-join g p (last (opened g) ns) m ks j.spare setting_of of s (depths_are_kept g setting_of bytes ns r) after e j.joined
+      let x = driver-steps-join g p (last (opened g) ns) m ks j.spare setting_of of s (depths_are_kept g setting_of bytes ns r) after e j.joined in
+      (x.tickets, joined-on ns m ks j x)
 
-  abbrev Joins : List Moment → Type 0
-  Joins ms = (ks : ℕ → Ticket) × RunJoins g p ms ks
-
-  all-steps : (ns ms : List Moment) (ks : ℕ → Ticket) → IsRun g (opened g) ns → IsRun g (last (opened g) ns) ms → IsPlanOf g (last (last (opened g) ns) ms) p → RunJoins g p ns ks → Joins (ns ++ ms)
-  all-steps ns [] ks r s of j = subst Joins (sym (append-none ns)) (ks, j)
-  all-steps ns (m ∷ ms) ks r s of j =
+  all-steps : (ns ms : List Moment) → IsRun g (opened g) ns → IsRun g (last (opened g) ns) ms → IsPlanOf g (last (last (opened g) ns) ms) p → IsJoinedRun g p ns → IsJoinedRun g p (ns ++ ms)
+  all-steps ns [] r s of x = subst (IsJoinedRun g p) (sym (append-none ns)) x
+  all-steps ns (m ∷ ms) r s of x =
       let e : last (opened g) (ns ++ m ∷ []) ≡ m.after = ends_after (opened g) ns m in
-      let x = one-step ns m ks r s.0 (plan-before g p m.after ms s.1 of) (is_by_words m.entry.step) refl j in
-      subst Joins (append-one ns m ms)
-      (all-steps (ns ++ m ∷ []) ms x.tickets (goes_on g (opened g) ns m r s.0) (subst (λ (w : World). IsRun g w ms) (sym e) s.1)
-      (subst (λ (w : World). IsPlanOf g (last w ms) p) (sym e) of) (joined-on ns m ks j x))
+      subst (IsJoinedRun g p) (append-one ns m ms)
+      (all-steps (ns ++ m ∷ []) ms (goes_on g (opened g) ns m r s.0) (subst (λ (w : World). IsRun g w ms) (sym e) s.1)
+      (subst (λ (w : World). IsPlanOf g (last w ms) p) (sym e) of) (one-step ns m r s.0 (plan-before g p m.after ms s.1 of) x (is_by_words m.entry.step) refl))
 
   opening : IsPlanOf g (opened g) p → RunJoins g p [] no_tickets
   opening of =
@@ -106,7 +102,7 @@ module _ (g : BenchSetting) (p : Plan) (setting_of : IsBenchSetting g) (bytes : 
 
 pub runs-join : RunsJoin
 runs-join g p ms setting_of bytes plan of r words =
-    all-steps g p setting_of bytes plan words [] ms no_tickets tt r of (opening g p setting_of bytes plan words (plan-before g p (opened g) ms r of))
+    all-steps g p setting_of bytes plan words [] ms tt r of (no_tickets, opening g p setting_of bytes plan words (plan-before g p (opened g) ms r of))
 
 -- ---- what follows
 only-freed : (l : Life) (s : Stage) → IsStage l s → is_live l ≡ false → (o : Outcome) × (l ≡ Freed o)

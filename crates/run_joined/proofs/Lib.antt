@@ -1,4 +1,4 @@
-pub mod Told
+pub mod Matching
 pub mod DeskSteps
 pub mod DoneSteps
 pub mod ChipSteps

@@ -41,9 +41,9 @@ use Rattle.run_law.specs.History.{tally_in, is_live as lives_in, is_under_way, n
 use Rattle.word_owners.specs.FreePlaces.{HasDepths}
 use Rattle.run_joined.specs.DeskLives.{stage_of, IsStage, IsCounted, IsKept, DeskJoined, StepsTo}
 use Rattle.run_joined.specs.Joined.{IsDeskOf, IsJoined, StepJoins}
-use Rattle.run_joined.specs.Told.{IsSilent, SaysNothing}
+use Rattle.run_joined.specs.Matching.{IsSilent, SaysNothing}
 use Rattle.run_joined.proofs.Rigs.{SameRig, as-made, desk-stays}
-use Rattle.run_joined.proofs.Told.{silent-move, silent-change}
+use Rattle.run_joined.proofs.Matching.{silent-move, silent-change}
 
 -- ---- how many tickets of a unit live
 total-front : (f : ℕ → ℕ) (n : ℕ) → total f (suc n) ≡ f 0 + total (λ i. f (suc i)) n

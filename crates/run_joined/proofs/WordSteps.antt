@@ -8,7 +8,7 @@ use Rattle.ticket_fate.specs.Tickets.{Plan, Life, Unbuilt, Ticket}
 use Rattle.world_law.specs.World.{BenchSetting, World}
 use Rattle.world_law.specs.Runs.{Moment, Steps}
 use Rattle.world_law.specs.Steps.{TakesOf, Does}
-use Rattle.run_joined.specs.DeskLives.{WordsTell, IsSwept}
+use Rattle.run_joined.specs.DeskLives.{WordsAgree, IsLostToReset}
 use Rattle.run_joined.specs.Plans.{IsPlanOf}
 use Rattle.run_joined.specs.Joined.{IsJoined, StepJoins, WordStepsJoin}
 use Rattle.run_joined.proofs.Rigs.{same-rig}
@@ -24,19 +24,19 @@ module _ (g : BenchSetting) (p : Plan) (old : World) (m : Moment) (ks : ℕ → 
       by (inl h) = h
       by (inr h) = absurd (n (sym e ∙ j.desk.unbuilt t h))
 
-  told-built : (l : Life) → WordsTell p old.desk old.memory t (ticket old.desk t) (ks t) l → l ≡ Unbuilt → ⊥
-  told-built l w e = subst (WordsTell p old.desk old.memory t (ticket old.desk t) (ks t)) e w
+  told-built : (l : Life) → WordsAgree p old.desk old.memory t (ticket old.desk t) (ks t) l → l ≡ Unbuilt → ⊥
+  told-built l w e = subst (WordsAgree p old.desk old.memory t (ticket old.desk t) (ks t)) e w
 
-  swept-built : (l : Life) (sensing rogue : Bool) → IsSwept l sensing rogue → l ≡ Unbuilt → ⊥
-  swept-built l sensing rogue w e = subst (λ (z : Life). IsSwept z sensing rogue) e w
+  swept-built : (l : Life) (sensing rogue : Bool) → IsLostToReset l sensing rogue → l ≡ Unbuilt → ⊥
+  swept-built l sensing rogue w e = subst (λ (z : Life). IsLostToReset z sensing rogue) e w
 
-  takes : (o : Option ℕ) → o ≡ Some t → TakesOf o old m.reply m.after → m.entry.step ≡ step.TakeDone → WordsTell p old.desk old.memory t (ticket old.desk t) (ks t) (ks t).life → StepJoins g p old m ks
+  takes : (o : Option ℕ) → o ≡ Some t → TakesOf o old m.reply m.after → m.entry.step ≡ step.TakeDone → WordsAgree p old.desk old.memory t (ticket old.desk t) (ks t) (ks t).life → StepJoins g p old m ks
   takes o q d e w =
       let x = subst (λ (z : Option ℕ). TakesOf z old m.reply m.after) q d in
       let l = within (ks t).life refl (told-built (ks t).life w) in
       one-ticket g p old m ks spare j step.TakeDone e (λ y. refl) refl t l _ x.1 (done-steps-move.taken p old.desk ks old.memory t j.desk l w) refl (length-set old.desk.tickets t _) (same-rig refl refl refl refl)
 
-  sweeps : Does g old m.entry.caller (step.Sweep t) m.reply m.after → m.entry.step ≡ step.Sweep t → IsSwept (ks t).life (is_sensing (ticket old.desk t).stage) (is_rogue old.desk (ticket old.desk t)) → StepJoins g p old m ks
+  sweeps : Does g old m.entry.caller (step.Sweep t) m.reply m.after → m.entry.step ≡ step.Sweep t → IsLostToReset (ks t).life (is_sensing (ticket old.desk t).stage) (is_rogue old.desk (ticket old.desk t)) → StepJoins g p old m ks
   sweeps d e w =
       let l = within (ks t).life refl (swept-built (ks t).life (is_sensing (ticket old.desk t).stage) (is_rogue old.desk (ticket old.desk t)) w) in
       one-ticket g p old m ks spare j (step.Sweep t) e (λ y. refl) refl t l _ d.1 (done-steps-move.swept p old.desk ks t j.desk l w) refl (length-set old.desk.tickets t _) (same-rig refl refl refl refl)

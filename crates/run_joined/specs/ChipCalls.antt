@@ -14,7 +14,7 @@ use Rattle.ticket_fate.specs.Tickets.{Plan, unit_of, Connected, Ticket, view_for
 use Rattle.ticket_fate.specs.Moves.{target_of, TicketMove, pointed_ticket}
 use Rattle.bus_events.specs.Targets.{targets}
 use Rattle.bus_events.specs.Tickets.{resets_device, tickets_after}
-use Rattle.bus_events.specs.Owed.{Owes}
+use Rattle.bus_events.specs.Needs.{Needs}
 use Rattle.bus_events.specs.Rooms.{clears_at}
 use Rattle.run_law.specs.Changes.{resets_device as reset_in_run}
 use Rattle.world_law.specs.ChipSteps.{RunsChip}
@@ -34,7 +34,7 @@ pub record TicketBus : Type 0 where
 -- unit of the connected target, and comes only where the run says that the target is reset.
 pub record Calls (p : Plan) (units : List RigUnit) (live_at : ℕ → Nexus → Option ℕ) (caused : ℕ → Bool) (old : TicketBus) (event : Event) (new : TicketBus) : Type 0 where
   pub call : moves units live_at old.bus event new.bus
-  pub owes : Owes p live_at old.bus event old.tickets
+  pub needs : Needs p live_at old.bus event old.tickets
   pub made : new.tickets ≡ tickets_after p old.bus event new.bus old.tickets
   pub room : (n : ℕ) → old.spare n ≡ new.spare n + clears_at (resets_device old.bus event) old.bus.connected (p.units n).target
   pub reset : (i : ℕ) → resets_device old.bus event ≡ true → old.bus.connected ≡ Some i → caused i ≡ true

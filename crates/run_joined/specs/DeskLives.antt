@@ -86,24 +86,24 @@ pub record DeskStepsMove : Type 0 where
 
 -- What the words of a ticket's block say when it is taken: BUSY or QUEUE FULL with tries left is to be queued again, without it is an outcome;
 -- CHECK CONDITION is checked where the driver is to ask; any other end is its outcome. A ticket of a unit that breaks the rules is never checked.
-abbrev pub WordsTell : Plan → DeskState → (memory : List ℕ) → (t : ℕ) → DeskTicket → Ticket → Life → Type 0
-WordsTell p d m t x k Asked = Unit {0}
-WordsTell p d m t x k (Rejected st) = (is_again d m x ≡ nat_le k.tries p.retries) × (is_check d m x ≡ false) × (outcome_by (state_of m x) (status_byte m x) ≡ Done)
-WordsTell p d m t x k (Finished o) =
+abbrev pub WordsAgree : Plan → DeskState → (memory : List ℕ) → (t : ℕ) → DeskTicket → Ticket → Life → Type 0
+WordsAgree p d m t x k Asked = Unit {0}
+WordsAgree p d m t x k (Rejected st) = (is_again d m x ≡ nat_le k.tries p.retries) × (is_check d m x ≡ false) × (outcome_by (state_of m x) (status_byte m x) ≡ Done)
+WordsAgree p d m t x k (Finished o) =
     (is_again d m x ≡ false) × (is_check d m x ≡ true → (o ≡ Done) × IsToAsk p t k) × (is_check d m x ≡ false → (outcome_by (state_of m x) (status_byte m x) ≡ o) × (o ≡ Done → IsToAsk p t k → ⊥))
-WordsTell p d m t x k AtRogue = is_check d m x ≡ false
-WordsTell p d m t x k l = ⊥
+WordsAgree p d m t x k AtRogue = is_check d m x ≡ false
+WordsAgree p d m t x k l = ⊥
 
 -- TakeDone, where the words tell so, and Sweep, of a ticket that a reset took from the chip
-abbrev pub IsSwept : Life → (sensing rogue : Bool) → Type 0
-IsSwept Lost sensing rogue = rogue ≡ false
-IsSwept AskLost sensing rogue = Unit {0}
-IsSwept AtRogue sensing rogue = Unit {0}
-IsSwept l sensing rogue = ⊥
+abbrev pub IsLostToReset : Life → (sensing rogue : Bool) → Type 0
+IsLostToReset Lost sensing rogue = rogue ≡ false
+IsLostToReset AskLost sensing rogue = Unit {0}
+IsLostToReset AtRogue sensing rogue = Unit {0}
+IsLostToReset l sensing rogue = ⊥
 
 pub record DoneStepsMove : Type 0 where
-  pub taken : (p : Plan) (d : DeskState) (ks : ℕ → Ticket) (memory : List ℕ) (t : ℕ) → DeskJoined p d ks → t < length d.tickets → WordsTell p d memory t (ticket d t) (ks t) (ks t).life → StepsTo p t ks (takes d memory t)
-  pub swept : (p : Plan) (d : DeskState) (ks : ℕ → Ticket) (t : ℕ) → DeskJoined p d ks → t < length d.tickets → IsSwept (ks t).life (is_sensing (ticket d t).stage) (is_rogue d (ticket d t))
+  pub taken : (p : Plan) (d : DeskState) (ks : ℕ → Ticket) (memory : List ℕ) (t : ℕ) → DeskJoined p d ks → t < length d.tickets → WordsAgree p d memory t (ticket d t) (ks t) (ks t).life → StepsTo p t ks (takes d memory t)
+  pub swept : (p : Plan) (d : DeskState) (ks : ℕ → Ticket) (t : ℕ) → DeskJoined p d ks → t < length d.tickets → IsLostToReset (ks t).life (is_sensing (ticket d t).stage) (is_rogue d (ticket d t))
       → StepsTo p t ks (ends d t (sweep_outcome (is_sensing (ticket d t).stage) (is_rogue d (ticket d t))))
 
 -- the steps of a ticket that the chip makes

@@ -20,7 +20,7 @@ use Rattle.bus_events.specs.TicketLaws.{AreJoined}
 use Rattle.bus_events.specs.Rooms.{AreReserved}
 use Rattle.bus_events.specs.BusResets.{HasPlaces, history_on}
 use Rattle.word_owners.specs.KeptDesks.{AreKept}
-use Rattle.run_joined.specs.DeskLives.{DeskJoined, WordsTell, IsSwept}
+use Rattle.run_joined.specs.DeskLives.{DeskJoined, WordsAgree, IsLostToReset}
 use Rattle.run_joined.specs.Plans.{IsPlanOf}
 
 -- the desk has what the rig says
@@ -98,6 +98,6 @@ DriverStepsJoin =
 -- so are TakeDone, where the words of the ticket's block tell what its life says, and Sweep of a ticket that a reset took from the chip
 pub record WordStepsJoin : Type 0 where
   pub taken : (g : BenchSetting) (p : Plan) (old : World) (m : Moment) (ks : ℕ → Ticket) (spare : ℕ → ℕ) (t : ℕ) → Steps g old m → m.entry.step ≡ step.TakeDone
-      → done_ticket old.memory old.desk ≡ Some t → WordsTell p old.desk old.memory t (ticket old.desk t) (ks t) (ks t).life → IsJoined g p old ks spare → StepJoins g p old m ks
+      → done_ticket old.memory old.desk ≡ Some t → WordsAgree p old.desk old.memory t (ticket old.desk t) (ks t) (ks t).life → IsJoined g p old ks spare → StepJoins g p old m ks
   pub swept : (g : BenchSetting) (p : Plan) (old : World) (m : Moment) (ks : ℕ → Ticket) (spare : ℕ → ℕ) (t : ℕ) → Steps g old m → m.entry.step ≡ step.Sweep t
-      → IsSwept (ks t).life (is_sensing (ticket old.desk t).stage) (is_rogue old.desk (ticket old.desk t)) → IsJoined g p old ks spare → StepJoins g p old m ks
+      → IsLostToReset (ks t).life (is_sensing (ticket old.desk t).stage) (is_rogue old.desk (ticket old.desk t)) → IsJoined g p old ks spare → StepJoins g p old m ks

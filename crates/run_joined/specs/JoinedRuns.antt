@@ -1,5 +1,5 @@
 -- A run beside a list of moves of tickets and targets, and what follows for its reports. Source: own.
-use Rattle.std.specs.Prelude.{◌≡◌, ℕ, ◌<◌, false, true, List, length, Some}
+use Rattle.std.specs.Prelude.{◌≡◌, ℕ, ◌<◌, false, true, List, [], ◌∷◌, ◌++◌, length, Some}
 use Rattle.rig_types.specs.declared.report.Outcome.{Outcome}
 use Rattle.unit_law.specs.Log.{run_log}
 use Rattle.unit_law.specs.Report.{Fits, SenseFits}
@@ -17,7 +17,7 @@ use Rattle.ticket_fate.specs.Moves.{target_of}
 use Rattle.ticket_fate.specs.Laws.{Opens}
 use Rattle.bus_events.specs.Targets.{targets}
 use Rattle.word_owners.specs.Worlds.{HasBytes}
-use Rattle.run_joined.specs.Joined.{IsJoined, no_tickets, StepJoins, is_by_words}
+use Rattle.run_joined.specs.Joined.{IsJoined, no_tickets, is_by_words}
 use Rattle.run_joined.specs.Plans.{IsPlanOf}
 
 -- a list of moves from the opening leads to the world after the run, and the run's history of each ticket is that of the moves
@@ -28,16 +28,20 @@ pub record RunJoins (g : BenchSetting) (p : Plan) (ms : List Moment) (ks : ℕ �
   pub joined : IsJoined g p (last (opened g) ms) ks spare
   pub histories : (x : ℕ) → history g (unit_of p x) x (opened g) ms ≡ moved.history x moves
 
--- after each run that is joined, a step of the chip, TakeDone and Sweep are joined: what is left to show of the words of memory
+-- some list of moves does
+abbrev pub IsJoinedRun : BenchSetting → Plan → List Moment → Type 0
+IsJoinedRun g p ms = (ks : ℕ → Ticket) × RunJoins g p ms ks
+
+-- Where a step of the chip, TakeDone or Sweep, which the words of memory and the chip's program decide, leaves each run joined that was so, then every
+-- run is joined: the driver's other steps leave it so.
 abbrev pub WordsJoin : BenchSetting → Plan → Type 0
 WordsJoin g p =
-    (ms : List Moment) (m : Moment) (ks : ℕ → Ticket) → IsRun g (opened g) ms → Steps g (last (opened g) ms) m → is_by_words m.entry.step ≡ true → RunJoins g p ms ks → StepJoins g p (last (opened g) ms) m ks
+    (ms : List Moment) (m : Moment) → IsRun g (opened g) ms → Steps g (last (opened g) ms) m → is_by_words m.entry.step ≡ true → IsJoinedRun g p ms → IsJoinedRun g p (ms ++ m ∷ [])
 
--- then every run is joined
 abbrev pub RunsJoin : Type 0
 RunsJoin =
     (g : BenchSetting) (p : Plan) (ms : List Moment) → IsBenchSetting g → HasBytes g → IsPlan p (length g.units) → IsPlanOf g (last (opened g) ms) p → IsRun g (opened g) ms → WordsJoin g p
-    → (ks : ℕ → Ticket) × RunJoins g p ms ks
+    → IsJoinedRun g p ms
 
 -- the report of a freed ticket, as the moves make it, and its sense fit the log of its unit in the world after the run, with the run's history; the
 -- desk has its outcome and its tries

@@ -1,4 +1,4 @@
-pub mod Told
+pub mod Matching
 pub mod DeskLives
 pub mod Plans
 pub mod Joined

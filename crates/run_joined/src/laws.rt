@@ -5,7 +5,7 @@ ghost use Rattle.run_joined.specs.DeskLives.{DeskStepsMove, DoneStepsMove, ChipL
 ghost use Rattle.run_joined.specs.Joined.{DriverStepsJoin, OpeningIsJoined, WordStepsJoin};
 ghost use Rattle.run_joined.specs.JoinedRuns.{JoinedRunsFit, RunsJoin};
 ghost use Rattle.run_joined.specs.Plans.{PlansExist, PlansStay};
-ghost use Rattle.run_joined.specs.Told.{HistoriesTie, FreedHistories, FreedReportsFit};
+ghost use Rattle.run_joined.specs.Matching.{HistoriesTie, FreedHistories, FreedReportsFit};
 
 /// Where a run's changes say of a ticket what the moves say, the run's history of it is that of the moves; once it is freed,
 /// this is its history at its Free, and its report fits its unit's log with it.
@@ -64,9 +64,9 @@ pub fn chip_steps_join()
     ensures { ChipStepsJoin }
 {}
 
-/// Every run is joined to a list of moves of tickets and targets, where each step of the chip, TakeDone and Sweep in it is
-/// (`WordsJoin`): the moves lead from the opening to the world after the run, and the history of each ticket in the run is that
-/// of the moves.
+/// Where the steps of the chip, TakeDone and Sweep leave each run joined that was so (`WordsJoin`), every run is joined to a list of
+/// moves of tickets and targets: the moves lead from the opening to the world after the run, and the history of each ticket in
+/// the run is that of the moves.
 pub fn runs_join()
     ensures { RunsJoin }
 {}

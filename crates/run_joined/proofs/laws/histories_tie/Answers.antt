@@ -1,4 +1,4 @@
-use Rattle.run_joined.proofs.Told.{histories-tie, freed-histories, freed-reports-fit}
+use Rattle.run_joined.proofs.Matching.{histories-tie, freed-histories, freed-reports-fit}
 use Rattle.run_joined.proofs.laws.histories_tie.Goals as goal
 
 pub returns : goal.returns

@@ -28,9 +28,9 @@ use Rattle.ticket_fate.specs.Moves.{target_of}
 use Rattle.bus_events.specs.Targets.{targets, HasRoom}
 
 -- ATN isn't asserted while a sense task is to choose
-abbrev pub OwesChoice : (atn : Bool) → ConnectionState → Type 0
-OwesChoice true (TaskConnected c) = c.task.senses ≡ false
-OwesChoice atn link = Unit {0}
+abbrev pub NeedsChoice : (atn : Bool) → ConnectionState → Type 0
+NeedsChoice true (TaskConnected c) = c.task.senses ≡ false
+NeedsChoice atn link = Unit {0}
 
 -- a command is that of its ticket, which was selected: a ticket of this target's unit, by its LUN and tag, with its own command or with
 -- REQUEST SENSE
@@ -42,77 +42,77 @@ pub record IsToBegin (g : Plan) (i : ℕ) (n : Nexus) (c : Cdb) (x : ℕ) (k : T
 
 module _ (g : Plan) (i : ℕ) (ks : ℕ → Ticket) where
   -- in DATA OUT the byte of the buffer at the task's position
-  abbrev pub OwesData : TaskPhase → Connection → (byte : ℕ) → Type 0
-  OwesData (DataOut n) c byte = slice_get (ks c.task.ticket).buffer c.task.position ≡ Some byte
-  OwesData shows c byte = Unit {0}
+  abbrev pub NeedsData : TaskPhase → Connection → (byte : ℕ) → Type 0
+  NeedsData (DataOut n) c byte = slice_get (ks c.task.ticket).buffer c.task.position ≡ Some byte
+  NeedsData shows c byte = Unit {0}
 
   -- with the last byte of a descriptor block the command of the nexus' live ticket
-  abbrev pub OwesCommand : Nexus → List ℕ → Option ℕ → Type 0
-  OwesCommand n bytes live = (x : ℕ) → live ≡ Some x → is_whole bytes ≡ true → IsToBegin g i n (cdb_of bytes) x (ks x)
+  abbrev pub NeedsCommand : Nexus → List ℕ → Option ℕ → Type 0
+  NeedsCommand n bytes live = (x : ℕ) → live ≡ Some x → is_whole bytes ≡ true → IsToBegin g i n (cdb_of bytes) x (ks x)
 
-  abbrev pub OwesByte : ConnectionState → (Nexus → Option ℕ) → (byte : ℕ) → Type 0
-  OwesByte (TaskConnected c) live byte = OwesData c.shows c byte
-  OwesByte (TakingCommand n taken) live byte = OwesCommand n (taken ++ byte ∷ []) (live n)
-  OwesByte link live byte = Unit {0}
+  abbrev pub NeedsByte : ConnectionState → (Nexus → Option ℕ) → (byte : ℕ) → Type 0
+  NeedsByte (TaskConnected c) live byte = NeedsData c.shows c byte
+  NeedsByte (TakingCommand n taken) live byte = NeedsCommand n (taken ++ byte ∷ []) (live n)
+  NeedsByte link live byte = Unit {0}
 
   -- a task that leaves the bus: its saved pointer is its saved position
-  abbrev pub OwesPointer : Connection → Type 0
-  OwesPointer c = (ks c.task.ticket).savep ≡ c.task.saved
+  abbrev pub NeedsPointer : Connection → Type 0
+  NeedsPointer c = (ks c.task.ticket).savep ≡ c.task.saved
 
   -- a reset of the target: no request for sense is under way at it
-  abbrev pub OwesReset : Type 0
-  OwesReset = (x : ℕ) → target_of g x ≡ i → CanReset ByDevice (ks x).life
+  abbrev pub NeedsReset : Type 0
+  NeedsReset = (x : ℕ) → target_of g x ≡ i → CanReset ByDevice (ks x).life
 
   -- ABORT TAG: an abort marked the ticket
-  abbrev pub OwesAbort : (reselected : Bool) → Connection → Type 0
-  OwesAbort true c = (ks c.task.ticket).marked ≡ true
-  OwesAbort false c = OwesPointer c
+  abbrev pub NeedsAbort : (reselected : Bool) → Connection → Type 0
+  NeedsAbort true c = (ks c.task.ticket).marked ≡ true
+  NeedsAbort false c = NeedsPointer c
 
-  abbrev pub OwesTold : InitiatorMessage → Connection → Type 0
-  OwesTold Resets c = OwesReset
-  OwesTold AbortsTag c = OwesAbort c.reselected c
-  OwesTold m c = OwesPointer c
+  abbrev pub NeedsTold : InitiatorMessage → Connection → Type 0
+  NeedsTold Resets c = NeedsReset
+  NeedsTold AbortsTag c = NeedsAbort c.reselected c
+  NeedsTold m c = NeedsPointer c
 
-  abbrev pub OwesGreeting : InitiatorMessage → Type 0
-  OwesGreeting Resets = OwesReset
-  OwesGreeting m = Unit {0}
+  abbrev pub NeedsGreeting : InitiatorMessage → Type 0
+  NeedsGreeting Resets = NeedsReset
+  NeedsGreeting m = Unit {0}
 
-  abbrev pub OwesMessage : ConnectionState → Type 0
-  OwesMessage (connection_state.Selected heard) = OwesGreeting (message_of heard)
-  OwesMessage (TaskConnected c) = c.shows ≡ MessageOut → OwesTold (message_of c.heard) c
-  OwesMessage link = Unit {0}
+  abbrev pub NeedsMessage : ConnectionState → Type 0
+  NeedsMessage (connection_state.Selected heard) = NeedsGreeting (message_of heard)
+  NeedsMessage (TaskConnected c) = c.shows ≡ MessageOut → NeedsTold (message_of c.heard) c
+  NeedsMessage link = Unit {0}
 
   -- COMMAND COMPLETE: the status is in the block, and after an answer the pointer stands at the position
-  abbrev pub OwesVerdict : (senses : Bool) → Completion → Connection → Type 0
-  OwesVerdict false (Answered st) c = ((ks c.task.ticket).lastp ≡ c.task.position) × ((ks c.task.ticket).status ≡ status_code st)
-  OwesVerdict false (Refused st) c = (ks c.task.ticket).status ≡ status_code st
-  OwesVerdict true v c = Unit {0}
+  abbrev pub NeedsVerdict : (senses : Bool) → Completion → Connection → Type 0
+  NeedsVerdict false (Answered st) c = ((ks c.task.ticket).lastp ≡ c.task.position) × ((ks c.task.ticket).status ≡ status_code st)
+  NeedsVerdict false (Refused st) c = (ks c.task.ticket).status ≡ status_code st
+  NeedsVerdict true v c = Unit {0}
 
-  abbrev pub OwesHeard : TargetMessage → Connection → Type 0
-  OwesHeard (CommandComplete v) c = OwesVerdict c.task.senses v c
-  OwesHeard Disconnect c = OwesPointer c
-  OwesHeard n c = Unit {0}
+  abbrev pub NeedsHeard : TargetMessage → Connection → Type 0
+  NeedsHeard (CommandComplete v) c = NeedsVerdict c.task.senses v c
+  NeedsHeard Disconnect c = NeedsPointer c
+  NeedsHeard n c = Unit {0}
 
-  abbrev pub OwesShown : TaskPhase → Connection → Type 0
-  OwesShown (MessageIn n sent) c = OwesHeard n c
-  OwesShown shows c = Unit {0}
+  abbrev pub NeedsShown : TaskPhase → Connection → Type 0
+  NeedsShown (MessageIn n sent) c = NeedsHeard n c
+  NeedsShown shows c = Unit {0}
 
-  abbrev pub OwesAck : ConnectionState → Type 0
-  OwesAck (TaskConnected c) = OwesShown c.shows c
-  OwesAck link = Unit {0}
+  abbrev pub NeedsAck : ConnectionState → Type 0
+  NeedsAck (TaskConnected c) = NeedsShown c.shows c
+  NeedsAck link = Unit {0}
 
 -- at the connected target
 module _ (g : Plan) (live : ℕ → Nexus → Option ℕ) where
-  abbrev pub OwesAt : BusState → ℕ → Event → (ℕ → Ticket) → Type 0
-  OwesAt b i (Phase word shown) ks = OwesChoice b.atn (targets b i).link
-  OwesAt b i (Leave word gone) ks = OwesChoice b.atn (targets b i).link
-  OwesAt b i (ByteOut byte taken) ks = OwesByte g i ks (targets b i).link (live i) byte
-  OwesAt b i (SetAtn false) ks = OwesMessage g i ks (targets b i).link
-  OwesAt b i ClearAck ks = OwesAck g i ks (targets b i).link
-  OwesAt b i event ks = Unit {0}
+  abbrev pub NeedsAt : BusState → ℕ → Event → (ℕ → Ticket) → Type 0
+  NeedsAt b i (Phase word shown) ks = NeedsChoice b.atn (targets b i).link
+  NeedsAt b i (Leave word gone) ks = NeedsChoice b.atn (targets b i).link
+  NeedsAt b i (ByteOut byte taken) ks = NeedsByte g i ks (targets b i).link (live i) byte
+  NeedsAt b i (SetAtn false) ks = NeedsMessage g i ks (targets b i).link
+  NeedsAt b i ClearAck ks = NeedsAck g i ks (targets b i).link
+  NeedsAt b i event ks = Unit {0}
 
-  abbrev pub Owes : BusState → Event → (ℕ → Ticket) → Type 0
-  Owes b event ks = (i : ℕ) → b.connected ≡ Some i → OwesAt b i event ks
+  abbrev pub Needs : BusState → Event → (ℕ → Ticket) → Type 0
+  Needs b event ks = (i : ℕ) → b.connected ≡ Some i → NeedsAt b i event ks
 
 -- each log of the connected target has room for what the call adds: a lawful move, a message, an acknowledgement
 abbrev pub HasRoomToChoose : BusState → ℕ → Type 0

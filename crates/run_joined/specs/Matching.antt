@@ -39,19 +39,19 @@ pub record SaysAs (g : BenchSetting) (u x : ℕ) (c : Change) (p : Plan) (count 
   pub device : resets_device g (unit c.before.desk u).target c ≡ resets_by is_device (target_of p x) m
 
 -- a run from world w on, with the moves that it makes: each change says what a move says, or nothing, and so does each move
-pub data Told (g : BenchSetting) (u x : ℕ) (w : World) (p : Plan) (count : ℕ) (ks : ℕ → Ticket) (ts : ℕ → Target) : List Moment → (ns : ℕ → Ticket) → (us : ℕ → Target) → Run p count ks ts ns us → Type 0 where
-  opened : Told g u x w p count ks ts [] ks ts none
-  moves : {ms : List Moment} {ns : ℕ → Ticket} {us : ℕ → Target} {os : ℕ → Ticket} {vs : ℕ → Target} {r : Run p count ks ts ns us} → Told g u x w p count ks ts ms ns us r → (m : Moves p count ns us os vs)
-      → IsSilent p count ns us os vs x m → Told g u x w p count ks ts ms os vs (more r m)
-  passes : {ms : List Moment} {ns : ℕ → Ticket} {us : ℕ → Target} {r : Run p count ks ts ns us} → Told g u x w p count ks ts ms ns us r → (a : Moment)
-      → SaysNothing g u x (record { before = last w ms; moment = a }) → Told g u x w p count ks ts (ms ++ a ∷ []) ns us r
-  says : {ms : List Moment} {ns : ℕ → Ticket} {us : ℕ → Target} {os : ℕ → Ticket} {vs : ℕ → Target} {r : Run p count ks ts ns us} → Told g u x w p count ks ts ms ns us r → (a : Moment) (m : Moves p count ns us os vs)
-      → SaysAs g u x (record { before = last w ms; moment = a }) p count ns us os vs m → Told g u x w p count ks ts (ms ++ a ∷ []) os vs (more r m)
+pub data MatchesMoves (g : BenchSetting) (u x : ℕ) (w : World) (p : Plan) (count : ℕ) (ks : ℕ → Ticket) (ts : ℕ → Target) : List Moment → (ns : ℕ → Ticket) → (us : ℕ → Target) → Run p count ks ts ns us → Type 0 where
+  opened : MatchesMoves g u x w p count ks ts [] ks ts none
+  moves : {ms : List Moment} {ns : ℕ → Ticket} {us : ℕ → Target} {os : ℕ → Ticket} {vs : ℕ → Target} {r : Run p count ks ts ns us} → MatchesMoves g u x w p count ks ts ms ns us r → (m : Moves p count ns us os vs)
+      → IsSilent p count ns us os vs x m → MatchesMoves g u x w p count ks ts ms os vs (more r m)
+  passes : {ms : List Moment} {ns : ℕ → Ticket} {us : ℕ → Target} {r : Run p count ks ts ns us} → MatchesMoves g u x w p count ks ts ms ns us r → (a : Moment)
+      → SaysNothing g u x (record { before = last w ms; moment = a }) → MatchesMoves g u x w p count ks ts (ms ++ a ∷ []) ns us r
+  says : {ms : List Moment} {ns : ℕ → Ticket} {us : ℕ → Target} {os : ℕ → Ticket} {vs : ℕ → Target} {r : Run p count ks ts ns us} → MatchesMoves g u x w p count ks ts ms ns us r → (a : Moment) (m : Moves p count ns us os vs)
+      → SaysAs g u x (record { before = last w ms; moment = a }) p count ns us os vs m → MatchesMoves g u x w p count ks ts (ms ++ a ∷ []) os vs (more r m)
 
 -- then the run's history is that of the moves
 abbrev pub HistoriesTie : Type 0
 HistoriesTie = (g : BenchSetting) (u x : ℕ) (w : World) (p : Plan) (count : ℕ) (ks : ℕ → Ticket) (ts : ℕ → Target) (ms : List Moment) (ns : ℕ → Ticket) (us : ℕ → Target) (r : Run p count ks ts ns us)
-    → Told g u x w p count ks ts ms ns us r → history g u x w ms ≡ moved.history x r
+    → MatchesMoves g u x w p count ks ts ms ns us r → history g u x w ms ≡ moved.history x r
 
 -- from the opening on, with a ticket that is freed
 pub record IsFreedIn (g : BenchSetting) (x : ℕ) (w : World) (p : Plan) (count : ℕ) (ms : List Moment) (ns : ℕ → Ticket) (us : ℕ → Target) (o : Outcome) : Type 0 where
@@ -60,7 +60,7 @@ pub record IsFreedIn (g : BenchSetting) (x : ℕ) (w : World) (p : Plan) (count 
   pub ts : ℕ → Target
   pub opens : Opens p count ks ts
   pub run : Run p count ks ts ns us
-  pub told : Told g (unit_of p x) x w p count ks ts ms ns us run
+  pub matches : MatchesMoves g (unit_of p x) x w p count ks ts ms ns us run
   pub freed : (ns x).life ≡ Freed o
 
 -- its history is that of its Free

@@ -18,7 +18,7 @@ use Rattle.world_law.specs.Runs.{Moment, last}
 use Rattle.run_law.specs.Changes.{Change, marks, resets_bus, resets_device}
 use Rattle.run_law.specs.History.{tally_in, is_live as lives_in, is_under_way, count_if, noted, history}
 use Rattle.run_law.proofs.Longer.{notes_on}
-use Rattle.run_joined.specs.Told.{IsSilent, SaysNothing, SaysAs, opened, moves, passes, says, IsFreedIn, HistoriesTie, FreedHistories, FreedReportsFit}
+use Rattle.run_joined.specs.Matching.{IsSilent, SaysNothing, SaysAs, opened, moves, passes, says, IsFreedIn, HistoriesTie, FreedHistories, FreedReportsFit}
 
 -- one more change, by what it says
 abbrev pub by_change : (marked bus device live under : Bool) (before after : Tally) → TicketHistory → TicketHistory
@@ -130,7 +130,7 @@ reached g x w p count ms ns us o f = record { plan = f.plan; from = (f.ks, f.ts,
 
 tied : (g : BenchSetting) (x : ℕ) (w : World) (p : Plan) (count : ℕ) (ms : List Moment) (ns : ℕ → Ticket) (us : ℕ → Target) (o : Outcome) (f : IsFreedIn g x w p count ms ns us o)
     → history g (unit_of p x) x w ms ≡ moved.history x f.run
-tied g x w p count ms ns us o f = histories-tie g (unit_of p x) x w p count f.ks f.ts ms ns us f.run f.told
+tied g x w p count ms ns us o f = histories-tie g (unit_of p x) x w p count f.ks f.ts ms ns us f.run f.matches
 
 pub freed-histories : FreedHistories
 freed-histories g x w p count ms ns us o f = tied g x w p count ms ns us o f ∙ histories-end p count ns us (reached g x w p count ms ns us o f) x o f.freed
