@@ -11,3 +11,4 @@ pub mod DriverSteps
 pub mod WordSteps
 pub mod ChipCalls
 pub mod JoinedRuns
+pub mod BlockWords

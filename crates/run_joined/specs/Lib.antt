@@ -4,3 +4,4 @@ pub mod Plans
 pub mod Joined
 pub mod ChipCalls
 pub mod JoinedRuns
+pub mod BlockWords

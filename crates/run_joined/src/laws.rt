@@ -1,5 +1,6 @@
 //! Laws of runs and moves. Each function does nothing; its contract is the law.
 
+ghost use Rattle.run_joined.specs.BlockWords.{BlocksAgree};
 ghost use Rattle.run_joined.specs.ChipCalls.{ChipStepsJoin};
 ghost use Rattle.run_joined.specs.DeskLives.{DeskStepsMove, DoneStepsMove, ChipLeavesDesk};
 ghost use Rattle.run_joined.specs.Joined.{DriverStepsJoin, OpeningIsJoined, WordStepsJoin};
@@ -76,4 +77,10 @@ pub fn runs_join()
 /// of its opening.
 pub fn joined_runs_fit()
     ensures { JoinedRunsFit }
+{}
+
+/// Where STATE, STATUS and RESTART of a ticket's block agree with its life, TakeDone finds what its life says: it is to be queued
+/// again, or to be asked for its sense, or has its outcome. Only a unit that keeps the rules ends a ticket with an answer.
+pub fn blocks_agree()
+    ensures { BlocksAgree }
 {}

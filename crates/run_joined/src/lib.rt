@@ -4,6 +4,7 @@
 mod laws;
 
 pub use laws::{
-    chip_leaves_desk, chip_steps_join, desk_steps_move, done_steps_move, driver_steps_join,
-    histories_tie, joined_runs_fit, opening_is_joined, plans_exist, runs_join, word_steps_join,
+    blocks_agree, chip_leaves_desk, chip_steps_join, desk_steps_move, done_steps_move,
+    driver_steps_join, histories_tie, joined_runs_fit, opening_is_joined, plans_exist, runs_join,
+    word_steps_join,
 };

@@ -23,7 +23,7 @@ use Rattle.target_law.specs.declared.task_phase.Completion.TheVariants.{Answered
 use Rattle.target_law.specs.Session.{Task, Session, remaining, total_of, status_of, status_by, closed, closed_by, ended}
 use Rattle.target_law.specs.Sound.{HasMoved, IsSoundTask}
 use Rattle.ticket_fate.specs.Tickets.{Plan, unit_of, opening, Connected, Rejected, Finished, Ticket, with_life, view_for, IsAccepted}
-use Rattle.ticket_fate.specs.Fates.{HasTask, TicketKept}
+use Rattle.ticket_fate.specs.Fates.{IsRefusal, HasTask, TicketKept}
 use Rattle.ticket_fate.proofs.Views.{Grows}
 use Rattle.ticket_fate.proofs.TicketSteps.{held-none, fate_at, sense_at, needs}
 use Rattle.ticket_fate.proofs.SenseLives.{unasked-entry}
@@ -241,7 +241,7 @@ module _ (g : Plan) (t : ℕ) (k : Ticket) (x : Session) (a : IsAccepted (g.requ
   ends st z f l c = closed_at x.task.senses st refl z f l c
 
   -- COMMAND COMPLETE after BUSY or QUEUE FULL
-  pub rejects : (st : Status) → x.task.high ≡ 0 → x.task.kept ≡ None → (status_code st ≡ status_code Good → ⊥) → k.status ≡ status_code st
+  pub rejects : (st : Status) → x.task.high ≡ 0 → x.task.kept ≡ None → IsRefusal st → k.status ≡ status_code st
       → Closes g t (with_life k (Rejected st)) x (closed (Refused st) x)
   unfolding closed
   rejects st h n d c =

@@ -182,8 +182,8 @@ gone-worth (suc r) s n e = phased-worth (need_of s.task.cdb).direction s n e
 acted-worth : (m : Move) (s : Session) (limit refused : ℕ) → s.shows ≡ ToChoose → Can m s limit refused → (s.task.fresh ≡ true → (s.task.high ≡ 0) × (s.task.kept ≡ None)) → ShownFits (acted m s).shows (acted m s).task
 unfolding acted
 acted-worth (move.Go n) s limit refused e c f = gone-worth (remaining s) s n e
-acted-worth move.Busy s limit refused e c f = let h = f c.fresh in (h.0, h.1, λ z. absurd (omega arith))
-acted-worth move.QueueFull s limit refused e c f = let h = f c.fresh in (h.0, h.1, λ z. absurd (omega arith))
+acted-worth move.Busy s limit refused e c f = let h = f c.fresh in (h.0, h.1, inl refl)
+acted-worth move.QueueFull s limit refused e c f = let h = f c.fresh in (h.0, h.1, inr refl)
 acted-worth move.Leave s limit refused e c f = tt
 acted-worth move.SaveLeave s limit refused e c f = tt
 acted-worth move.Save s limit refused e c f = tt

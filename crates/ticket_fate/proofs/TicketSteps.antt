@@ -1,5 +1,5 @@
 -- What holds of a ticket after a move that logs nothing and speaks of no task.
-use Rattle.std.proofs.Common.{◌≡◌, ◌≢◌, ℕ, ◌+◌, ◌≤◌, ◌<◌, true, false, List, [], length, refl, ap, arith, sym, ◌∙◌, subst, inr, cond, nat_eq}
+use Rattle.std.proofs.Common.{◌≡◌, ◌≢◌, ℕ, ◌+◌, ◌≤◌, ◌<◌, true, false, List, [], length, refl, ap, arith, sym, ◌∙◌, subst, inl, inr, cond, nat_eq}
 use Rattle.scsi_words.specs.declared.phases.kinds.Direction.{Direction}
 use Rattle.scsi_words.specs.declared.phases.kinds.Direction.TheVariants.{In, Out, None as NoData}
 use Rattle.scsi_words.specs.declared.statuses.kinds.Status.{Status}
@@ -16,7 +16,7 @@ use Rattle.logs_have_room.specs.Room.{entries}
 use Rattle.ticket_fate.specs.Tickets.{Plan, unit_of, Life, Unbuilt, Built, Linked, ToRequeue, Waits, Selected, Rejected, Finished, Ended, Ticket, with_life, report_of, view_for, built_ticket, queued_ticket}
 use Rattle.ticket_fate.specs.Senses.{Unasked, SenseFate}
 use Rattle.ticket_fate.proofs.SenseLives.{silent-lost}
-use Rattle.ticket_fate.specs.Fates.{OnlyRefusals, Queued, AllRefused, Fate, TicketKept, NeedsNone}
+use Rattle.ticket_fate.specs.Fates.{IsRefusal, OnlyRefusals, Queued, AllRefused, Fate, TicketKept, NeedsNone}
 
 pub fate_at : (g : Plan) (t : ℕ) (k : Ticket) (log : List LogEntry) (l : Life) → TicketKept g t k log → k.life ≡ l → Fate g t l k (view_for g t log)
 fate_at g t k log l s e = subst (λ x. Fate g t x k (view_for g t log)) e s.fate
@@ -127,6 +127,10 @@ module _ (g : Plan) (t : ℕ) (k : Ticket) (log : List LogEntry) (s : TicketKept
         before = s.before;
       }
 
+  not-good : (x : Status) → IsRefusal x → status_code x ≡ status_code Good → ⊥
+  not-good x (inl e) z = let y = sym (ap status_code e) ∙ z in absurd (omega (arith, y))
+  not-good x (inr e) z = let y = sym (ap status_code e) ∙ z in absurd (omega (arith, y))
+
   pub requeue-kept : (st : Status) → k.life ≡ Rejected st → k.tries ≤ g.retries → TicketKept g t (with_life k ToRequeue) log
   requeue-kept st e m = let f = fate_at g t k log (Rejected st) s e in record { fate = (m, f.4); sense = sense_at g t k log (Rejected st) s e; absent = λ a. ((s.absent a).0, tt); since = s.since; before = s.before }
 
@@ -144,7 +148,7 @@ module _ (g : Plan) (t : ℕ) (k : Ticket) (log : List LogEntry) (s : TicketKept
             tries = sym q.refusals;
             all_tries = omega (arith, f.0);
             status = (st, f.2, f.1);
-            residual = whole _ _ k.status (status_code Good) (λ z. f.3 (sym f.1 ∙ z));
+            residual = whole _ _ k.status (status_code Good) (λ z. not-good st f.3 (sym f.1 ∙ z));
             bytes = f.4.holds;
           });
           ticket = refl;

@@ -1,8 +1,9 @@
 -- What holds of one ticket and of its unit's log, by where the ticket is in its life. Source: own.
-use Rattle.std.specs.Prelude.{◌≡◌, ℕ, ◌+◌, ◌-◌, ◌≤◌, true, false, List, [], take, Some, None}
+use Rattle.std.specs.Prelude.{◌≡◌, ℕ, ◌+◌, ◌-◌, ◌≤◌, true, false, List, [], take, Some, None, ◌⊎◌}
 use Rattle.scsi_words.specs.declared.phases.kinds.Direction.TheVariants.{Out}
-use Rattle.scsi_words.specs.declared.statuses.kinds.Status.TheVariants.{Good}
 use Rattle.scsi_words.specs.Statuses.{status_code}
+use Rattle.scsi_words.specs.declared.statuses.kinds.Status.{Status}
+use Rattle.scsi_words.specs.declared.statuses.kinds.Status.TheVariants.{Busy, QueueFull}
 use Rattle.cdb_codec.specs.Forms.{need_of}
 use Rattle.rig_types.specs.declared.report.Outcome.{Outcome}
 use Rattle.rig_types.specs.declared.report.Outcome.TheVariants.{Done, Reset}
@@ -14,6 +15,10 @@ use Rattle.target_law.specs.Session.{Task}
 use Rattle.logs_have_room.specs.Room.{entries}
 use Rattle.ticket_fate.specs.Senses.{SenseFate}
 use Rattle.ticket_fate.specs.Tickets.{Plan, unit_of, setting, Life, Unbuilt, Built, Linked, ToRequeue, Waits, Selected, Connected, Away, Lost, Rejected, Finished, Checked, Asks, AskStarts, AskConnected, AskLost, Asked, AtRogue, Ended, Unlinked, Freed, Ticket, history_at, history_so_far, report_of, view_for}
+
+-- with these a unit refuses a command (SCSI-2 7.3)
+abbrev pub IsRefusal : Status → Type 0
+IsRefusal st = (st ≡ Busy) ⊎ (st ≡ QueueFull)
 
 -- the log has nothing of it but n refusals
 pub record OnlyRefusals (v : View) (n : ℕ) : Type 0 where
@@ -80,7 +85,7 @@ Fate g t Selected k v = Queued g.retries (g.requests t) k.tries k.lastp k.savep 
 Fate g t Connected k v = HasTask g.retries (g.requests t) k.tag k.tries k.buffer k.task v
 Fate g t Away k v = HasTask g.retries (g.requests t) k.tag k.tries k.buffer k.task v × (k.savep ≡ k.task.saved) × (k.task.position ≡ k.task.saved)
 Fate g t Lost k v = ReportFits g t k v Reset
-Fate g t (Rejected st) k v = (k.tries ≤ g.retries + 1) × (k.status ≡ status_code st) × (v.tally.refused ≡ Some st) × (status_code st ≡ status_code Good → ⊥) × AllRefused (g.requests t) k.tries k.buffer v
+Fate g t (Rejected st) k v = (k.tries ≤ g.retries + 1) × (k.status ≡ status_code st) × (v.tally.refused ≡ Some st) × IsRefusal st × AllRefused (g.requests t) k.tries k.buffer v
 Fate g t (Finished o) k v = ReportFits g t k v o × (o ≡ Done → v.tally.ends ≡ 1)
 Fate g t Checked k v = FitsInCheck g t k v
 Fate g t Asks k v = FitsInCheck g t k v

@@ -1,7 +1,5 @@
 -- How the state of a target and the tickets fit one another. Source: own.
 use Rattle.std.specs.Prelude.{◌≡◌, ℕ, ◌<◌, nat_eq, nat_lt, ◌&&◌, ◌||◌, Bool, true, false, List, [], ◌∷◌, Option, Some, None, ◌⊎◌}
-use Rattle.scsi_words.specs.Statuses.{status_code}
-use Rattle.scsi_words.specs.declared.statuses.kinds.Status.TheVariants.{Good}
 use Rattle.unit_law.specs.declared.entry.LogEntry.{LogEntry}
 use Rattle.unit_law.specs.Log.{run_log, tally}
 use Rattle.target_law.specs.declared.task_phase.TargetMessage.{TargetMessage}
@@ -16,7 +14,7 @@ use Rattle.target_law.specs.Sound.{IsSound, IsWaiting}
 use Rattle.target_law.specs.Target.{LogicalUnit, ConnectionState, TaskConnected, RogueConnected, Target, unit_at, session}
 use Rattle.ticket_fate.specs.Tickets.{Plan, unit_of, opening, Life, Selected, Connected, Away, Lost, Asks, AskStarts, AskConnected, AskLost, is_live, Ticket, IsAccepted}
 use Rattle.ticket_fate.specs.Senses.{AsksTask}
-use Rattle.ticket_fate.specs.Fates.{TicketKept}
+use Rattle.ticket_fate.specs.Fates.{IsRefusal, TicketKept}
 
 -- the units of the rig, by their numbers
 pub record IsPlan (g : Plan) (count : ℕ) : Type 0 where
@@ -56,10 +54,10 @@ pub record UnitKept (g : Plan) (n : ℕ) (tickets : ℕ → Ticket) (u : Logical
   pub lists : WaitingTasks g n tickets u.tasks
   pub waiting : (t : ℕ) → unit_of g t ≡ n → (tickets t).life ≡ Away → IsWaiting u.plain (tickets t).task
 
--- a refusal comes before anything has moved; a data phase comes from a task that isn't fresh
+-- a refusal is BUSY or QUEUE FULL and comes before anything has moved; a data phase comes from a task that isn't fresh
 abbrev pub VerdictFits : Completion → Task → Type 0
 VerdictFits (HasAnswered st) k = Unit {0}
-VerdictFits (Refused st) k = (k.high ≡ 0) × (k.kept ≡ None) × (status_code st ≡ status_code Good → ⊥)
+VerdictFits (Refused st) k = (k.high ≡ 0) × (k.kept ≡ None) × IsRefusal st
 
 abbrev pub NoteFits : TargetMessage → Task → Type 0
 NoteFits (CommandComplete v) k = VerdictFits v k
