@@ -164,7 +164,7 @@ module _ (m : List ℕ) (u : RigUnit) (k : Ticket) (cdb : List ℕ) (s : length 
   abbrev tabled : List ℕ
   tabled = with_fields headed k.block (segment_fields (16 - length k.pieces) k.pieces)
 
-  block-size : length (with_block m u k cdb) ≡ 0x400000
+  pub block-size : length (with_block m u k cdb) ≡ 0x400000
   block-size =
       length-put_bytes (put_bytes tabled (k.block + 0xE0) (message_bytes u k)) (k.block + 0xF0) cdb ∙ length-put_bytes tabled (k.block + 0xE0) (message_bytes u k) ∙ length-with_fields headed k.block (segment_fields (16 - length k.pieces) k.pieces)
       ∙ length-with_fields cleared k.block (head u k (length cdb)) ∙ length-put_bytes m k.block (replicate 0x200 0) ∙ s
@@ -214,7 +214,7 @@ module _ (retries step_limit : ℕ) (w : World) (desk : DeskState) (m : List ℕ
   inside : r.unit < length d.units
   inside = has-unit d r b.sound
 
-  here : ticket desk t ≡ k
+  pub here : ticket desk t ≡ k
   here =
       let e : ticket desk t ≡ get_or (d.tickets ++ k ∷ []) t no_ticket = ap (λ (ts : List Ticket). get_or ts t no_ticket) tickets in
       elim (ticket-built d.tickets k t) [
@@ -253,7 +253,7 @@ module _ (retries step_limit : ℕ) (w : World) (desk : DeskState) (m : List ℕ
   few-segments : length r.segments ≤ 16
   few-segments = let e : nat_lt 16 (length r.segments) ≡ false = fault-free 2 in grind (arith, nat_tests, e)
 
-  is-new : IsNew k
+  pub is-new : IsNew k
   is-new =
       let x = tickets_built retries step_limit d desk w.memory m l r t rig b h in
       let f = places_free retries step_limit d r.unit rig h.depths inside b.not_full in
@@ -276,7 +276,7 @@ module _ (retries step_limit : ℕ) (w : World) (desk : DeskState) (m : List ℕ
             omega (arith, c.to, e, after.space.base, after.space.units);
       }
 
-  above : (i : ℕ) → i < length k.pieces → 0x200000 ≤ (get_or k.pieces i no_piece).chunk.base
+  pub above : (i : ℕ) → i < length k.pieces → 0x200000 ≤ (get_or k.pieces i no_piece).chunk.base
   above i j =
       let o = owned i j in
       let c = (after.space.out t i o.1).chunk in
@@ -291,16 +291,16 @@ module _ (retries step_limit : ℕ) (w : World) (desk : DeskState) (m : List ℕ
   in-range : IsInRange d.version u
   in-range = (rig.in_range r.unit no_unit inside).in_range
 
-  short : length r.cdb ≤ 12
+  pub short : length r.cdb ≤ 12
   short = whole-short r.cdb (not-false (is_whole r.cdb) (fault-free 1))
 
   abbrev blocked : List ℕ
   blocked = with_block w.memory u k r.cdb
 
-  low : (x : ℕ) → x + 4 ≤ 0x200000 → word_at m x ≡ word_at blocked x
+  pub low : (x : ℕ) → x + 4 ≤ 0x200000 → word_at m x ≡ word_at blocked x
   low x j = ap (λ (y : List ℕ). word_at y x) b.wrote ∙ buffer-low blocked k.pieces r.bytes x j above
 
-  target-low : u.target < 8
+  pub target-low : u.target < 8
   target-low = omega (arith, in-range.target)
 
   block-here : IsBlock (word_at m) Built (fixed_of k) u.target
@@ -309,10 +309,10 @@ module _ (retries step_limit : ℕ) (w : World) (desk : DeskState) (m : List ℕ
       block-frame (word_at blocked) (word_at m) Built (fixed_of k) u.target (λ x j z. low x (omega (arith, z, p.below))) (λ x j z. low x (omega (arith, z, p.below)))
       (built w.memory u k r.cdb size is-new target-low short)
 
-  reads-low : (i : ℕ) → i < 14 → offset (nth (head u k (length r.cdb)) i).0 + 4 ≤ 0x40 → word_at m (k.block + offset (nth (head u k (length r.cdb)) i).0) ≡ (nth (head u k (length r.cdb)) i).1
+  pub reads-low : (i : ℕ) → i < 14 → offset (nth (head u k (length r.cdb)) i).0 + 4 ≤ 0x40 → word_at m (k.block + offset (nth (head u k (length r.cdb)) i).0) ≡ (nth (head u k (length r.cdb)) i).1
   reads-low i j z = let p = is-new.block in low (k.block + offset (nth (head u k (length r.cdb)) i).0) (omega (arith, z, p.below)) ∙ reads w.memory u k r.cdb size is-new target-low short i j z
 
-  units-same : desk.units ≡ d.units
+  pub units-same : desk.units ≡ d.units
   units-same = ap (λ (x : DeskState). x.units) b.desk
 
   fixed-here : (tickets_of desk).fixed t ≡ fixed_of k

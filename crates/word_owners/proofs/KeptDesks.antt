@@ -173,12 +173,15 @@ lost-active w k (Some Ma) p e = absurd cc
 lost-active w k (Some Udc) p e = absurd cc
 lost-active w k (Some Sto) p e = absurd cc
 
-pub swept-lives : (w : World) (k : Ticket) → to_sweep w k ≡ true → lives k ≡ true
-swept-lives w k e =
+pub swept-active : (w : World) (k : Ticket) → to_sweep w k ≡ true → (is_queued k.stage || is_sensing k.stage) ≡ true
+swept-active w k e =
     let a = and_parts (is_clear w.stop) _ e in
     let b = and_parts (state_of w.memory k == LIVE) _ a.1 in
     let c = and_parts (not (is_tails w k)) (loses w k (cause_of w.regs)) b.1 in
-    active-lives k k.stage refl (lost-active w k (cause_of w.regs) (λ p. left-of (is_queued k.stage) (is_sensing k.stage) (and_parts (is_queued k.stage) _ p).0) c.1)
+    lost-active w k (cause_of w.regs) (λ p. left-of (is_queued k.stage) (is_sensing k.stage) (and_parts (is_queued k.stage) _ p).0) c.1
+
+pub swept-lives : (w : World) (k : Ticket) → to_sweep w k ≡ true → lives k ≡ true
+swept-lives w k e = active-lives k k.stage refl (swept-active w k e)
 
 -- a ticket that is taken keeps its unit and its pieces
 taken-unit : (sensing again check : Bool) (m : List ℕ) (k : Ticket) → (taken_by sensing again check m k).unit ≡ k.unit

@@ -1,0 +1,5 @@
+mod KeptWords
+mod RunSteps
+mod Marks
+mod Turned
+mod Commands

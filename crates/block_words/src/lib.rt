@@ -1,0 +1,6 @@
+//! What the words of a live ticket's block say in every world of a run: definitions, with their laws. Nothing here runs.
+#![tactic(auto)]
+
+mod laws;
+
+pub use laws::{commands_are_told, marks_are_told, words_stay};
