@@ -3,3 +3,4 @@ mod RunSteps
 mod Marks
 mod Turned
 mod Commands
+mod LiveWords

@@ -1,3 +1,4 @@
 pub mod KeptWords
 pub mod Marks
 pub mod Commands
+pub mod LiveWords

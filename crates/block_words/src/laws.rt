@@ -2,6 +2,7 @@
 
 ghost use Rattle.block_words.specs.Commands.{CommandsAreTold};
 ghost use Rattle.block_words.specs.KeptWords.{WordsStay};
+ghost use Rattle.block_words.specs.LiveWords.{LivesOfRules, MarksAgree, StateAndStatusTell};
 ghost use Rattle.block_words.specs.Marks.{MarksAreTold};
 
 /// In every world of every run no step changes START, RESTART, SEL, the entries, the message or the command of a live ticket's block,
@@ -19,4 +20,20 @@ pub fn marks_are_told()
 /// request, or REQUEST SENSE from its Sense on, with the command's length.
 pub fn commands_are_told()
     ensures { CommandsAreTold }
+{}
+
+/// In a joined run RESTART of a live ticket's block is ABORT exactly where the ticket is marked.
+pub fn marks_agree()
+    ensures { MarksAgree }
+{}
+
+/// After every list of moves only a ticket of a unit that keeps the rules has been selected, has a task, was refused or answered, or is
+/// asked for its sense.
+pub fn lives_of_rules()
+    ensures { LivesOfRules }
+{}
+
+/// In a joined run TakeDone finds what the life of a ticket says, where STATE and STATUS of its block agree with it.
+pub fn state_and_status_tell()
+    ensures { StateAndStatusTell }
 {}

@@ -33,7 +33,7 @@ all-kept g count ns us r =
     kept-by g count r.plan r.from.0 r.from.1 (opens-kept g count r.from.0 r.from.1 r.from.2) ns us r.from.3
 
 -- the history so far is what the ticket's record says
-recorded : (g : Plan) (count : ℕ) (plan : IsPlan g count) (ks : ℕ → Ticket) (ts : ℕ → Target) (o : Opens g count ks ts) (x : ℕ) (ns : ℕ → Ticket) (us : ℕ → Target) (r : Run g count ks ts ns us) → Recorded (ns x) (tally_in g us x) (history x r)
+pub recorded : (g : Plan) (count : ℕ) (plan : IsPlan g count) (ks : ℕ → Ticket) (ts : ℕ → Target) (o : Opens g count ks ts) (x : ℕ) (ns : ℕ → Ticket) (us : ℕ → Target) (r : Run g count ks ts ns us) → Recorded (ns x) (tally_in g us x) (history x r)
 recorded g count plan ks ts o x ns us none = record {
   marked = sym (o.unmarked x);
   bus_reset = sym (o.unreset x);
