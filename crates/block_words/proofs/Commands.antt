@@ -1,6 +1,6 @@
 -- The block of a live ticket has its message and its command.
-use Rattle.std.proofs.Common.{arith, ◌≡◌, ◌≢◌, ◌⊎◌, inl, inr, ℕ, zero, suc, ◌+◌, ◌*◌, ◌%◌, ◌<◌, ◌≤◌, Bool, true, false, List, [], ◌∷◌, ◌++◌, length, take, drop, slice_index, slice_index_or, get_or, Option, Some, None, refl, sym, ap, subst, ◌∙◌}
-use Rattle.std.specs.Prelude.{◌&&◌, ◌||◌, ◌==◌, ◌-◌, not, replicate, option_map}
+use Rattle.std.proofs.Common.{arith, ◌≡◌, ◌⊎◌, inl, inr, ℕ, zero, suc, ◌+◌, ◌%◌, ◌<◌, ◌≤◌, Bool, true, false, List, [], ◌∷◌, ◌++◌, length, take, drop, slice_index, slice_index_or, get_or, refl, sym, ap, subst, ◌∙◌}
+use Rattle.std.specs.Prelude.{◌&&◌, ◌==◌, ◌-◌, replicate, option_map}
 use Rattle.std.proofs.lemmas.Bool.{false≢true}
 use Rattle.std.proofs.lemmas.List.{get_or-set_same}
 use Rattle.std.proofs.lemmas.Bool.Decides.{nat_tests}
@@ -24,12 +24,11 @@ use Rattle.cmd_block.specs.Block.{offset}
 use Rattle.cmd_block.specs.declared.Field.{Field}
 use Rattle.desk_law.specs.declared.ticket.Piece.{Piece}
 use Rattle.desk_law.specs.declared.ticket.Ticket.{Ticket}
-use Rattle.desk_law.specs.declared.stage.Stage.{Stage}
 use Rattle.desk_law.specs.declared.stage.Stage.TheVariants as stage
 use Rattle.desk_law.specs.Blocks.{message_bytes, with_block, with_buffer, segment_fields}
 use Rattle.desk_law.specs.Building.{new_ticket}
-use Rattle.desk_law.specs.Calls.{senses, sense_memory}
-use Rattle.desk_law.specs.Desk.{ticket, unit, no_unit, no_ticket, lives, is_queued, is_sensing}
+use Rattle.desk_law.specs.Calls.{sense_memory}
+use Rattle.desk_law.specs.Desk.{ticket, unit, no_unit, no_ticket, lives}
 use Rattle.world_law.specs.Enabling.{Enabled}
 use Rattle.world_law.specs.Laws.{KeepsTicket}
 use Rattle.world_law.specs.Opening.{opened}
@@ -41,7 +40,7 @@ use Rattle.world_law.proofs.TicketsKept.{keeps_tickets}
 use Rattle.word_owners.specs.BenchSteps.{IsOwned}
 use Rattle.word_owners.specs.BuiltTickets.{AreBuilt}
 use Rattle.word_owners.specs.Spaces.{no_piece}
-use Rattle.word_owners.specs.Tickets.{IsLive, fixed_of}
+use Rattle.word_owners.specs.Tickets.{IsLive}
 use Rattle.word_owners.specs.Worlds.{HasBytes}
 use Rattle.word_owners.proofs.BuiltBlocks.{head}
 use Rattle.word_owners.proofs.BuiltMemory.{reads-low, here, is-new, short, above, target-low}
@@ -50,7 +49,7 @@ use Rattle.word_owners.proofs.Lists.{live-within}
 use Rattle.word_owners.proofs.Worlds.{words_are_owned, depths_are_kept}
 use Rattle.run_joined.proofs.Rigs.{rig-stays}
 use Rattle.block_words.specs.Commands.{HasCommand, command_by, HasItsCommand, CommandsAreTold}
-use Rattle.block_words.specs.KeptWords.{word_of, MayChange, IsKept}
+use Rattle.block_words.specs.KeptWords.{MayChange, IsKept}
 use Rattle.block_words.proofs.KeptWords.{words-stay}
 use Rattle.block_words.proofs.RunSteps.{by-steps, stage-lives, IsAccepted, lived-or-built}
 use Rattle.block_words.proofs.Turned.{turned_of, turned-same}
@@ -188,7 +187,7 @@ module _ (g : BenchSetting) (setting : IsBenchSetting g) (bytes : HasBytes g) wh
           is-sense x c = absurd c
 
       lived : HasItsCommand g m.after t
-      lived = elim flag-or [ | inl e ↦ sensed e | inr f ↦ by-sense (is-sense m.entry.step) refl f ]
+      lived = elim flag-or [ inl e ↦ sensed e | inr f ↦ by-sense (is-sense m.entry.step) refl f ]
         where
           is-sense : Step → Bool
           is-sense (step.Sense x) = x == t
@@ -203,7 +202,7 @@ module _ (g : BenchSetting) (setting : IsBenchSetting g) (bytes : HasBytes g) wh
               it-is : (x : Step) → is-sense x ≡ true → x ≡ step.Sense t
               it-is (step.Sense x) e = ap (λ (i : ℕ). step.Sense i) (grind (arith, nat_tests))
               it-is x e = absurd cc
-          by-sense false e f = still f (λ o low k. elim (word-or o low k) [ | inl z ↦ absurd (false≢true (sym e ∙ ap is-sense z ∙ same-test t)) | inr z ↦ z ])
+          by-sense false e f = still f (λ o low k. elim (word-or o low k) [ inl z ↦ absurd (false≢true (sym e ∙ ap is-sense z ∙ same-test t)) | inr z ↦ z ])
 
     -- ---- a ticket that the step builds
     rig-here : IsRig old.desk.version old.desk.units g.retries g.step_limit

@@ -1,17 +1,16 @@
 -- No step changes the kept words of a live ticket's block, but an abort of the ticket and its Sense.
-use Rattle.std.proofs.Common.{arith, ◌≡◌, ◌≢◌, ◌⊎◌, inl, inr, ℕ, zero, suc, ◌+◌, ◌-◌, ◌*◌, ◌<◌, ◌≤◌, ◌==◌, ◌||◌, nat_eq, Bool, true, false, List, [], ◌∷◌, length, slice_index, Option, Some, None, refl, sym, ap, subst, ◌∙◌}
+use Rattle.std.proofs.Common.{arith, ◌≡◌, ◌≢◌, ◌⊎◌, inl, inr, ℕ, ◌+◌, ◌-◌, ◌*◌, ◌<◌, ◌≤◌, ◌==◌, nat_eq, Bool, true, false, List, length, slice_index, Option, Some, None, refl, sym, ap, subst, ◌∙◌}
 use Rattle.std.specs.Prelude.{slice_get, not, if◌then◌else◌}
 use Rattle.std.proofs.lemmas.Bool.{false≢true}
 use Rattle.std.proofs.lemmas.Bool.Decides.{nat_tests}
 use Rattle.std.proofs.lemmas.List.FromFn.{get_or-range_with_len, length-range_with_len}
-use Rattle.bench_words.specs.Memory.{word_at, put_word, put_bytes}
+use Rattle.bench_words.specs.Memory.{word_at, put_word}
 use Rattle.bench_words.specs.Views.{Outside, WroteWithin}
 use Rattle.bench_words.proofs.Cells.{word_at-plus}
 use Rattle.bench_words.proofs.MemoryLaws.{word_apart}
 use Rattle.host_map.specs.declared.TheConstants.{FRONT, FRONT_IDLE, START_RING, IDLE, JOB}
-use Rattle.host_map.specs.Places.{start_slot, done_slot, tag_entry, IsCommandBlock}
+use Rattle.host_map.specs.Places.{tag_entry, IsCommandBlock}
 use Rattle.job_rings.specs.Rings.{next_slot}
-use Rattle.job_rings.proofs.RingLaws.{counts_start_slots}
 use Rattle.rig_types.specs.Ranges.{IsRig}
 use Rattle.rig_types.specs.declared.acts.Act.{Act}
 use Rattle.rig_types.specs.declared.acts.ActKind.{ActKind}
@@ -21,19 +20,17 @@ use Rattle.rig_types.specs.declared.rig.Unit.{Unit as RigUnit}
 use Rattle.rig_types.specs.declared.step.Line.{Line}
 use Rattle.rig_types.specs.declared.step.Step.{Step}
 use Rattle.rig_types.specs.declared.step.Step.TheVariants as step
-use Rattle.unit_law.specs.Request.{RequestData, plain}
-use Rattle.cmd_block.specs.Block.{offset, field_of}
-use Rattle.cmd_block.specs.declared.Field.TheVariants.{Lastp, Savep, CtxCount, CtxAt, CtxReturn}
+use Rattle.unit_law.specs.Request.{plain}
+use Rattle.cmd_block.specs.Block.{field_of}
+use Rattle.cmd_block.specs.declared.Field.TheVariants.{Savep}
 use Rattle.sense_job.specs.Turning.{sense_area, turned}
 use Rattle.sense_job.proofs.TurningLaws.{turned_is, turned-within}
-use Rattle.phase_fix.specs.Moves.{move_at}
 use Rattle.phase_fix.specs.Remain.{count_of}
 use Rattle.phase_fix.specs.Repair.{free_context, with_rest, repaired}
 use Rattle.phase_fix.specs.declared.moves.DataMove.{DataMove}
 use Rattle.desk_law.specs.declared.refused.Refused.{Refused}
 use Rattle.desk_law.specs.declared.stage.Stage.{Stage}
 use Rattle.desk_law.specs.declared.stage.Stage.TheVariants as stage
-use Rattle.desk_law.specs.declared.ticket.Ticket.{Ticket}
 use Rattle.desk_law.specs.Desk.{ticket, is_freed, lives}
 use Rattle.desk_law.specs.Calls.{begun_anew, queue_memory, sense_memory}
 use Rattle.desk_law.specs.Rings.{done_ticket}
@@ -41,13 +38,12 @@ use Rattle.run_law.specs.Changes.{has_kind, is_accepted_as, is_abort_of}
 use Rattle.world_law.specs.Acts.{ActsOf, acts_by, aborts, marks, device_resets, bus_resets, is_late}
 use Rattle.world_law.specs.Builds.{Accepts, BuildsBy, BuildsOf, refuses, is_tried_again}
 use Rattle.world_law.specs.ChipSteps.{RunsChip}
-use Rattle.world_law.specs.Enabling.{Enabled, MayQueue, IsEnded}
+use Rattle.world_law.specs.Enabling.{Enabled}
 use Rattle.world_law.specs.Opening.{opened}
-use Rattle.world_law.specs.Repairs.{Fixes, Repairs, fixed}
+use Rattle.world_law.specs.Repairs.{Fixes}
 use Rattle.world_law.specs.Resets.{idle_if}
 use Rattle.world_law.specs.Runs.{Moment, Steps, IsRun, last}
 use Rattle.world_law.specs.Steps.{Does, TakesOf}
-use Rattle.world_law.specs.Stops.{to_sweep}
 use Rattle.world_law.specs.World.{BenchSetting, IsBenchSetting, World, command_at, decided, front}
 use Rattle.world_law.specs.declared.reply.Decided.{Decided}
 use Rattle.world_law.specs.declared.reply.Decided.TheVariants as line
@@ -57,13 +53,11 @@ use Rattle.world_law.specs.declared.reply.Stop.{Stop}
 use Rattle.world_law.specs.declared.reply.Stop.TheVariants as stop
 use Rattle.world_law.proofs.Effects.{not-freed-within}
 use Rattle.world_law.proofs.TicketsKept.{keeps_tickets}
-use Rattle.word_owners.specs.BenchSteps.{IsOwned}
-use Rattle.word_owners.specs.Buffers.{IsOwn}
 use Rattle.word_owners.specs.Footprints.{IsScripts, IsDatum}
 use Rattle.word_owners.specs.Holds.{Spot, Holds, Running, Mismatched, NotData, Fixed as Repaired, TimedOut, JobOver, ResetAt, Broken}
 use Rattle.word_owners.specs.KeptDesks.{AreKept}
 use Rattle.word_owners.specs.Parts.{Counts}
-use Rattle.word_owners.specs.Tickets.{Fixed, tickets_of, goal, IsLive}
+use Rattle.word_owners.specs.Tickets.{Fixed, tickets_of, IsLive}
 use Rattle.word_owners.specs.Worlds.{HasBytes}
 use Rattle.word_owners.proofs.BufferWrites.{script_writes_only}
 use Rattle.word_owners.proofs.BuiltMemory.{build_adds}

@@ -1,12 +1,9 @@
 -- In a joined run RESTART says whether a ticket is marked, and only tickets of units that keep the rules answer.
-use Rattle.std.proofs.Common.{◌≡◌, ◌≢◌, ◌⊎◌, inl, inr, ℕ, ◌<◌, Bool, true, false, List, length, nat_eq, Option, Some, refl, sym, ap, subst, ◌∙◌}
+use Rattle.std.proofs.Common.{◌≡◌, ◌≢◌, ◌⊎◌, inl, inr, ℕ, Bool, true, false, length, nat_eq, refl, sym, ap, subst, ◌∙◌}
 use Rattle.std.proofs.lemmas.Option.{same_Some}
-use Rattle.rig_types.specs.declared.report.Outcome.{Outcome}
-use Rattle.rig_types.specs.declared.report.Outcome.TheVariants.{Done, Cut, Reset, NoTarget, Broken}
 use Rattle.unit_law.specs.Log.{View, with_at, tally}
 use Rattle.unit_law.specs.Report.{TicketHistory}
 use Rattle.unit_law.proofs.Views.{with_at-same, with_at-other, same_or_not}
-use Rattle.scsi_words.specs.declared.statuses.kinds.Status.{Status as StatusByte}
 use Rattle.target_law.specs.declared.task_phase.Completion.{Completion}
 use Rattle.target_law.specs.declared.task_phase.Completion.TheVariants.{Answered, Refused}
 use Rattle.target_law.specs.declared.task_phase.TaskPhase.{TaskPhase}
@@ -14,14 +11,12 @@ use Rattle.target_law.specs.declared.task_phase.TaskPhase.TheVariants.{ToChoose,
 use Rattle.target_law.specs.Session.{Task, Session}
 use Rattle.target_law.specs.Bytes.{Connection}
 use Rattle.target_law.specs.Target.{TaskConnected, Target, session}
-use Rattle.desk_law.specs.Desk.{ticket, lives}
-use Rattle.ticket_fate.specs.Tickets.{Plan, unit_of, Life, Unbuilt, Waits, Selected, Connected, Away, Rejected, Finished, Checked, Asks, AskStarts, AskConnected, AskLost, Asked, AtRogue, Ticket, ticket_sent, ticket_asked}
+use Rattle.ticket_fate.specs.Tickets.{Plan, unit_of, Life, Selected, Connected, Away, Checked, Asks, AskStarts, AskConnected, Asked, Ticket, ticket_sent, ticket_asked}
 use Rattle.ticket_fate.specs.Linked.{IsPlan, UnitKept, WorkKept, LinkKept, ResetCause, ByBus, ByDevice, lost_life, reset_ticket, log_of}
 use Rattle.ticket_fate.specs.Moves.{CompletesTicket, parts_ticket, target_of, TicketMove, Moves, alone, points, marks, relinks, acts, sends, receives, hears, listens, leaves_bus, completes, drops_task, reselects, begins, ask_sends, ask_completes, ask_begins, resets_idle, resets_work, resets_asking}
 use Rattle.ticket_fate.specs.Moves as move
 use Rattle.ticket_fate.specs.Histories.{Run, none, more}
 use Rattle.ticket_fate.specs.Kept.{AllKept}
-use Rattle.ticket_fate.specs.Laws.{Reached}
 use Rattle.ticket_fate.proofs.TaskLists.{away-at}
 use Rattle.ticket_fate.proofs.Reached.{opens-kept, kept-by, recorded}
 use Rattle.bus_events.specs.Targets.{targets}

@@ -20,30 +20,23 @@ use Rattle.std.proofs.lemmas.List.{get_or_past}
 use Rattle.desk_law.specs.Calls.{senses, sense_memory}
 use Rattle.run_joined.proofs.Matching.{none-noted}
 use Rattle.sense_job.proofs.TurningLaws.{turned_is}
-use Rattle.host_map.specs.declared.TheConstants.{FRONT_IDLE}
 use Rattle.desk_law.specs.declared.ticket.Ticket.{Ticket}
-use Rattle.desk_law.specs.declared.stage.Stage.{Stage}
-use Rattle.desk_law.specs.declared.stage.Stage.TheVariants as stage
 use Rattle.desk_law.specs.Desk.{ticket, no_ticket, lives}
-use Rattle.desk_law.specs.Taking.{is_marked}
 use Rattle.run_law.specs.Changes.{Change, has_kind, is_accepted_as, is_abort_of, is_marked as says_marked, marks_by, marks}
 use Rattle.run_law.specs.History.{history}
 use Rattle.run_law.proofs.Longer.{notes_on}
-use Rattle.world_law.specs.Acts.{ActsOf, acts_by, aborts, marks as marks_ticket, is_late, device_resets, bus_resets}
+use Rattle.world_law.specs.Acts.{ActsOf, acts_by, aborts, marks as marks_ticket, is_late}
 use Rattle.world_law.specs.Opening.{opened}
 use Rattle.world_law.specs.Runs.{Moment, Steps, IsRun, last}
 use Rattle.world_law.specs.Steps.{Does}
-use Rattle.world_law.specs.World.{BenchSetting, IsBenchSetting, World, decided, front}
+use Rattle.world_law.specs.World.{BenchSetting, IsBenchSetting, World, decided}
 use Rattle.world_law.specs.declared.reply.Decided.{Decided}
 use Rattle.world_law.specs.declared.reply.Decided.TheVariants as line
 use Rattle.world_law.specs.declared.reply.Reply.{Reply}
-use Rattle.world_law.specs.declared.reply.Stop.{Stop}
-use Rattle.world_law.specs.declared.reply.Stop.TheVariants as stop
 use Rattle.world_law.proofs.RunLaws.{ends_after}
 use Rattle.world_law.proofs.TicketsKept.{keeps_tickets}
 use Rattle.word_owners.specs.BenchSteps.{IsOwned}
 use Rattle.word_owners.specs.BuiltTickets.{AreBuilt}
-use Rattle.word_owners.specs.Holds.{Holds}
 use Rattle.word_owners.specs.Tickets.{IsLive}
 use Rattle.word_owners.specs.Worlds.{HasBytes}
 use Rattle.word_owners.proofs.BuiltMemory.{reads-low, here}
@@ -150,9 +143,11 @@ module _ (g : BenchSetting) (setting : IsBenchSetting g) (bytes : HasBytes g) (u
           let b = (ticket old.desk t).block in
           let k = marked_is old.memory b own.holds.size (own.holds.tickets.block t live) in
           let q : (ticket old.desk x).block ≡ b = ap (λ (i : ℕ). (ticket old.desk i).block) z in
-          inl (ap says_marked a,
+          inl (
+            ap says_marked a,
             ap (λ (i : ℕ). word_at m.after.memory (i + 0x04)) block-same ∙ ap (λ (v : World). word_at v.memory (b + 0x04)) w
-            ∙ ap (λ (i : ℕ). word_at (marked old.memory i) (b + 0x04)) q ∙ k.restart)
+                ∙ ap (λ (i : ℕ). word_at (marked old.memory i) (b + 0x04)) q ∙ k.restart,
+          )
 
       acted : (k : ℕ) → m.entry.step ≡ step.Act k → Agrees
       acted k e = by (slice_get g.acts k) refl (subst (λ (y : Step). Does g old m.entry.caller y m.reply m.after) e s.does)

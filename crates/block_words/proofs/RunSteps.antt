@@ -1,5 +1,5 @@
 -- What holds at the opening and is kept by each step of a run holds in every run; and what a step makes of the tickets that live.
-use Rattle.std.proofs.Common.{arith, ◌≡◌, ◌≢◌, ◌⊎◌, inl, inr, ℕ, ◌+◌, ◌<◌, ◌≤◌, nat_lt, Bool, true, false, List, [], ◌∷◌, ◌++◌, length, length-append, Option, Some, None, refl, sym, ap, subst, ◌∙◌}
+use Rattle.std.proofs.Common.{arith, ◌≡◌, ◌⊎◌, inl, inr, ℕ, ◌<◌, ◌≤◌, nat_lt, Bool, true, false, List, [], ◌∷◌, ◌++◌, length, length-append, Option, Some, None, refl, sym, ap, subst, ◌∙◌}
 use Rattle.std.specs.Prelude.{not}
 use Rattle.std.proofs.lemmas.Bool.{false≢true}
 use Rattle.std.proofs.lemmas.Bool.Decides.{nat_tests}
@@ -13,7 +13,7 @@ use Rattle.desk_law.specs.declared.ticket.Ticket.{Ticket}
 use Rattle.desk_law.specs.declared.stage.Stage.{Stage}
 use Rattle.desk_law.specs.Building.{new_ticket}
 use Rattle.desk_law.specs.Desk.{DeskState, ticket, lives, is_freed}
-use Rattle.world_law.specs.Builds.{Accepts, BuildsBy, BuildsOf, refuses, is_tried_again}
+use Rattle.world_law.specs.Builds.{Accepts, BuildsOf, refuses, is_tried_again}
 use Rattle.world_law.specs.Opening.{opened}
 use Rattle.world_law.specs.Runs.{Moment, Steps, IsRun, last, built}
 use Rattle.world_law.specs.Steps.{Does}

@@ -1,5 +1,5 @@
 -- The words of a live ticket's block that no step changes but an abort of the ticket and its Sense. Source: own.
-use Rattle.std.specs.Prelude.{◌≡◌, ◌⊎◌, ℕ, ◌+◌, ◌≤◌, Bool, true, List, slice_get}
+use Rattle.std.specs.Prelude.{◌≡◌, ◌⊎◌, ℕ, ◌+◌, ◌≤◌, true, List, slice_get}
 use Rattle.bench_words.specs.Memory.{word_at}
 use Rattle.rig_types.specs.declared.step.Step.{Step}
 use Rattle.rig_types.specs.declared.step.Step.TheVariants as step

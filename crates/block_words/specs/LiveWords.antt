@@ -1,6 +1,5 @@
 -- What the words of a block say of its ticket's life in a joined run, without STATE and STATUS. Source: own.
-use Rattle.std.specs.Prelude.{◌≡◌, ℕ, ◌<◌, true, false, List, length, Some}
-use Rattle.rig_types.specs.declared.report.Outcome.{Outcome}
+use Rattle.std.specs.Prelude.{◌≡◌, ℕ, true, false, List}
 use Rattle.rig_types.specs.declared.report.Outcome.TheVariants.{Done}
 use Rattle.target_law.specs.Target.{Target}
 use Rattle.desk_law.specs.Desk.{ticket, lives}

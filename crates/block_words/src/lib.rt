@@ -4,5 +4,6 @@
 mod laws;
 
 pub use laws::{
-    commands_are_told, lives_of_rules, marks_agree, marks_are_told, state_and_status_tell, words_stay,
+    commands_are_told, lives_of_rules, marks_agree, marks_are_told, state_and_status_tell,
+    words_stay,
 };
