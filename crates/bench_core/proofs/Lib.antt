@@ -1,6 +1,7 @@
 pub mod Replays
 pub mod Growth
 pub mod Settled
+pub mod Held
 pub mod Opened
 pub mod Longer
 pub mod Answered

@@ -4,6 +4,7 @@ ghost use Rattle.std.specs.Prelude.{◌≡◌, ◌<◌, ◌≤◌, length, slice
 ghost use Rattle.desk_law.specs.Desk.{ticket, due, aborter, reaper, chip};
 ghost use Rattle.world_law.specs.World.{lines_of, log_of};
 ghost use Rattle.world_law.specs.Stops.{sweep};
+ghost use Rattle.world_law.specs.Owners.{owner_of};
 ghost use Rattle.driver_desk.specs.Stages.{least_again, least_check, least_ended, least_unlinked};
 ghost use Rattle.bench_state.specs.Reading.{block_at};
 ghost use Rattle.bench_core.specs.Images.{disk_at};
@@ -12,7 +13,7 @@ use crate::bench::Bench;
 use rig_types::{Report, Rig, Work};
 use scsi_words::Direction;
 use unit_law::LogEntry;
-use world_law::{Decided, Reply, Stop};
+use world_law::{Decided, Owner, Reply, Stop};
 
 impl Bench {
     /// The rig.
@@ -171,6 +172,14 @@ impl Bench {
         ensures { result ≡ slice_get (log_of self.now.world unit) n }
     {
         self.state.log(unit, n)
+    }
+
+    /// The owner of a word of host memory, by its address. A chunk is its ticket's whole. Tickets are looked through from
+    /// the first that lives on.
+    pub fn owner(&self, address: u32) -> Owner
+        ensures { result ≡ owner_of self.now.world.desk address }
+    {
+        self.state.owner(address)
     }
 
     /// Copies a block of a unit's disk. The rig has the unit, and the unit the block. `into` has 512 bytes.

@@ -1,5 +1,5 @@
 -- What the acts and the reset of the bus make, want of memory with it.
-use Rattle.std.proofs.Common.{arith, ◌≡◌, ◌≤◌, ◌<◌, ◌==◌, ℕ, Bool, true, false, List, [], ◌∷◌, ◌++◌, slice_get, Option, Some, None, refl, sym, ap, subst, ◌∙◌}
+use Rattle.std.proofs.Common.{arith, ◌≡◌, ◌==◌, ℕ, Bool, true, false, List, slice_get, Option, Some, refl, sym, ap, subst, ◌∙◌}
 use Rattle.std.proofs.lemmas.Bool.Decides.{nat_tests}
 use Rattle.std.proofs.lemmas.List.Elements.{All-get_or}
 use Rattle.std.proofs.lemmas.Option.{slice_get_within, get_or_from_slice_get}
@@ -17,7 +17,7 @@ use Rattle.world_law.specs.declared.reply.Reply.TheVariants as reply
 use Rattle.world_law.specs.declared.reply.Stop.{Stop}
 use Rattle.world_law.specs.declared.reply.Stop.TheVariants as stop
 use Rattle.world_law.specs.World.{BenchSetting, World, decided, front}
-use Rattle.world_law.specs.Acts.{Acted, answers, is_busy, aborts, cause_at, device_resets, bus_resets, acts_by, ActsOf}
+use Rattle.world_law.specs.Acts.{Acted, answers, is_busy, aborts, cause_at, device_resets, bus_resets, ActsOf}
 use Rattle.world_law.specs.Resets.{resets}
 use Rattle.world_law.specs.Answers.{ResetsOf}
 use Rattle.bench_state.specs.Making.{is_held, HasTarget, Makes, wants, does, MakesAct, act_wants, act_does}

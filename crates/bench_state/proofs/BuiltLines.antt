@@ -1,6 +1,6 @@
 -- What a line that is accepted makes of the counts and of the world, and how Build answers.
-use Rattle.std.proofs.Common.{arith, ◌≡◌, ◌<◌, ◌≤◌, ◌+◌, ◌++◌, ◌∷◌, Bool, true, false, not, cond, ℕ, zero, suc, List, [], length, take, count_by, slice_set, slice_get, slice_index_or, Option, Some, None, refl, sym, ap, subst, ◌∙◌}
-use Rattle.std.proofs.lemmas.List.{length-set, length-append}
+use Rattle.std.proofs.Common.{arith, ◌≡◌, ◌<◌, ◌≤◌, ◌+◌, ◌++◌, ◌∷◌, Bool, true, false, not, ℕ, zero, suc, List, [], length, take, count_by, slice_get, slice_index_or, Option, Some, None, refl, sym, ap, subst, ◌∙◌}
+use Rattle.std.proofs.lemmas.List.{length-set}
 use Rattle.std.proofs.lemmas.List.Sums.{sum_by_push}
 use Rattle.std.proofs.lemmas.Option.{slice_get_within}
 use Rattle.rig_types.specs.declared.commands.Command.{Command}
@@ -17,10 +17,9 @@ use Rattle.desk_law.specs.Refusals.{Refuses}
 use Rattle.desk_law.specs.Building.{Builds, new_ticket}
 use Rattle.world_law.specs.declared.reply.Decided.{Decided}
 use Rattle.world_law.specs.declared.reply.Decided.TheVariants as line
-use Rattle.world_law.specs.declared.reply.Reply.{Reply}
 use Rattle.world_law.specs.declared.reply.Reply.TheVariants as reply
-use Rattle.world_law.specs.World.{BenchSetting, World, commands_of, lines_of, command_at}
-use Rattle.world_law.specs.Builds.{is_tried_again, decides, refuses, BuildsOf}
+use Rattle.world_law.specs.World.{BenchSetting, World, commands_of, command_at}
+use Rattle.world_law.specs.Builds.{is_tried_again, refuses, BuildsOf}
 use Rattle.world_law.specs.Answers.{AcceptsOf}
 use Rattle.world_law.specs.Runs.{is_recorded, decides_line}
 use Rattle.bench_state.specs.States.{BenchState}

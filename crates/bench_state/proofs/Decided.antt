@@ -1,5 +1,5 @@
 -- When every line is decided.
-use Rattle.std.proofs.Common.{arith, ◌≡◌, ◌<◌, ◌&&◌, ◌==◌, Bool, true, false, ℕ, zero, suc, List, [], ◌∷◌, length, slice_index_or, refl, sym, ◌∙◌}
+use Rattle.std.proofs.Common.{arith, ◌≡◌, ◌<◌, ◌==◌, true, false, ℕ, zero, suc, List, [], ◌∷◌, length, slice_index_or, refl, sym, ◌∙◌}
 use Rattle.std.proofs.lemmas.Bool.{and_from, and_left, and_right}
 use Rattle.rig_types.specs.declared.commands.Command.{Command}
 use Rattle.world_law.specs.declared.reply.Decided.{Decided}

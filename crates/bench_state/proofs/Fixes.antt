@@ -1,13 +1,12 @@
 -- A mismatch that can be repaired is repaired.
-use Rattle.std.proofs.Common.{◌≡◌, ◌-◌, ◌⊎◌, inl, ℕ, List, Option, Some, None, refl, sym, subst}
+use Rattle.std.proofs.Common.{◌≡◌, ◌-◌, inl, ℕ, List, Option, Some, None, refl, sym, subst}
 use Rattle.std.specs.Prelude.{IsSome}
 use Rattle.std.specs.Option.{ForSome}
-use Rattle.bench_words.specs.Memory.{word_at}
 use Rattle.driver_script.specs.Script.{label_of}
 use Rattle.driver_script.specs.declared.labels.Name.TheVariants.{Dispatch}
 use Rattle.phase_fix.specs.declared.moves.DataMove.{DataMove}
 use Rattle.phase_fix.specs.Moves.{move_at}
-use Rattle.phase_fix.specs.Repair.{IsFixable, repaired}
+use Rattle.phase_fix.specs.Repair.{repaired}
 use Rattle.world_law.specs.declared.reply.Stop.TheVariants.{Clear}
 use Rattle.world_law.specs.World.{World}
 use Rattle.world_law.specs.Repairs.{CanFix, Repairs, Fixes}

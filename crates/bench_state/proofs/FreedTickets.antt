@@ -1,5 +1,5 @@
 -- What Free makes of the counts, and where no ticket lives.
-use Rattle.std.proofs.Common.{arith, ◌≡◌, ◌<◌, ◌≤◌, ◌+◌, ◌-◌, ◌++◌, ◌∷◌, Bool, true, false, not, cond, ℕ, zero, suc, List, [], length, take, count_by, slice_set, slice_index_or, refl, sym, ap, subst, ◌∙◌}
+use Rattle.std.proofs.Common.{arith, ◌≡◌, ◌<◌, ◌≤◌, ◌+◌, ◌-◌, ◌++◌, ◌∷◌, Bool, true, false, not, ℕ, zero, suc, List, [], length, take, count_by, slice_set, slice_index_or, refl, ap, subst, ◌∙◌}
 use Rattle.std.proofs.lemmas.List.{length-append}
 use Rattle.rig_types.specs.declared.report.Report.{Report}
 use Rattle.desk_law.specs.declared.stage.Stage.TheVariants.{Unlinked, Freed}

@@ -11,7 +11,10 @@ pub mod LineLists
 pub mod OpeningLines
 pub mod OpeningHeld
 pub mod Places
+pub mod LeastPassing
+pub mod FirstTickets
 pub mod BlockingTickets
+pub mod OwnedPlaces
 pub mod DoneTaken
 pub mod Enabled
 pub mod OneOpening

@@ -1,7 +1,7 @@
 -- A submitter with one more line, and the room for it.
 use Rattle.std.proofs.Common.{arith, ◌≡◌, ◌<◌, ◌≤◌, ◌+◌, ◌++◌, ◌∷◌, ℕ, zero, suc, List, [], length, slice_set, slice_index_or, vec_capacity, ◌⊎◌, inl, inr, Result, Ok, Err, OnOk, OnErr, refl, sym, ap, subst, ◌∙◌}
 use Rattle.std.proofs.Math.Seq.{map-set_same}
-use Rattle.std.proofs.lemmas.List.{map-set, length-set, length-append}
+use Rattle.std.proofs.lemmas.List.{length-set, length-append}
 use Rattle.rig_types.specs.declared.acts.Act.{Act}
 use Rattle.rig_types.specs.declared.commands.Command.{Command}
 use Rattle.rig_types.specs.declared.rig.Rig.{Rig}

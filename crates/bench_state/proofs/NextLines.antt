@@ -1,8 +1,8 @@
 -- One more line of a submitter is decided.
-use Rattle.std.proofs.Common.{arith, ◌≡◌, ◌<◌, ◌≤◌, ◌+◌, ◌++◌, ◌∷◌, Bool, true, false, cond, ℕ, zero, suc, List, [], length, map, slice_set, slice_get, slice_index_or, count_by, sum, vec_capacity, Option, Some, None, refl, sym, ap, subst, ◌∙◌}
+use Rattle.std.proofs.Common.{arith, ◌≡◌, ◌<◌, ◌≤◌, ◌+◌, ◌++◌, ◌∷◌, ℕ, zero, suc, List, [], length, slice_set, slice_get, slice_index_or, count_by, sum, vec_capacity, Some, refl, sym, ap, ◌∙◌}
 use Rattle.std.proofs.Math.Seq.{map-set_same}
 use Rattle.std.proofs.lemmas.List.{map-set, length-set, length-append}
-use Rattle.std.proofs.lemmas.List.Sums.{sum_by-cons, sum_by_push, sum_by-set, get_or-le-sum_by, sum-map, count_by-le-length}
+use Rattle.std.proofs.lemmas.List.Sums.{sum_by-cons, sum_by_push, sum_by-set, count_by-le-length}
 use Rattle.std.proofs.lemmas.Option.{slice_get_read}
 use Rattle.rig_types.specs.declared.commands.Command.{Command}
 use Rattle.rig_types.specs.Works.{counts_of}

@@ -1,5 +1,5 @@
 -- There is one host memory at the opening: its words fix its bytes.
-use Rattle.std.proofs.Common.{arith, ◌≡◌, ◌<◌, ◌≤◌, ◌⊎◌, inl, inr, ℕ, false, zero, suc, ◌+◌, ◌-◌, ◌*◌, ◌/◌, ◌%◌, ◌^◌, List, [], ◌∷◌, length, replicate, slice_index, refl, sym, ap, ◌∙◌}
+use Rattle.std.proofs.Common.{arith, ◌≡◌, ◌<◌, ◌≤◌, ◌⊎◌, inl, inr, ℕ, false, zero, suc, ◌+◌, ◌*◌, ◌/◌, ◌%◌, List, [], ◌∷◌, length, replicate, slice_index, refl, sym, ap, ◌∙◌}
 use Rattle.std.proofs.lemmas.List.{ext_get_or, length-replicate}
 use Rattle.bench_words.specs.Memory.{word_at, put_word, IsZero}
 use Rattle.bench_words.specs.Bytes.{IsBytes}

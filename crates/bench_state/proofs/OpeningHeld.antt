@@ -1,5 +1,5 @@
 -- What the code keeps holds at the opening.
-use Rattle.std.proofs.Common.{arith, ◌≡◌, ◌≤◌, ◌∙◌, ◌+◌, ℕ, zero, suc, List, [], ◌∷◌, length, replicate, count_by, slice_index_or, refl, sym, ap, subst}
+use Rattle.std.proofs.Common.{arith, ◌≡◌, ◌≤◌, ◌∙◌, ◌+◌, ℕ, zero, suc, List, [], length, replicate, count_by, slice_index_or, refl, sym, ap, subst}
 use Rattle.std.proofs.lemmas.List.{length-replicate}
 use Rattle.std.proofs.lemmas.List.Sums.{sum_by-cons}
 use Rattle.rig_types.specs.declared.commands.Command.{Command}
@@ -8,7 +8,7 @@ use Rattle.rig_types.specs.declared.report.Report.{Report}
 use Rattle.desk_law.specs.Desk.{DeskState, lives, desk_opened}
 use Rattle.world_law.specs.declared.reply.Decided.{Decided}
 use Rattle.world_law.specs.declared.reply.Reply.{Reply}
-use Rattle.world_law.specs.World.{BenchSetting, commands_of}
+use Rattle.world_law.specs.World.{BenchSetting}
 use Rattle.world_law.specs.Opening.{memory_opened}
 use Rattle.world_law.proofs.Opens.{opens}
 use Rattle.bench_state.specs.declared.state.Lines.{Lines}

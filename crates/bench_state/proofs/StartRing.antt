@@ -7,7 +7,7 @@ use Rattle.host_map.specs.declared.TheConstants.{RINGP, START_RING}
 use Rattle.job_rings.specs.Rings.{IsSlot}
 use Rattle.desk_law.specs.declared.ticket.Ticket.{Ticket}
 use Rattle.desk_law.specs.Desk.{DeskState, is_queued}
-use Rattle.desk_law.specs.Rings.{is_start_slot, slots_from, waiting_count, waits, passed}
+use Rattle.desk_law.specs.Rings.{is_start_slot, slots_from, waiting_count, passed}
 
 pub slot_is : (a : ℕ) → is_start_slot a ≡ true → IsSlot START_RING a
 slot_is a h = record { from = grind (arith, nat_tests, h); below = grind (arith, nat_tests, h); aligned = grind (arith, nat_tests, h) }

@@ -1,5 +1,5 @@
 -- Which tickets are to be swept.
-use Rattle.std.proofs.Common.{arith, ◌≡◌, ◌<◌, ◌≤◌, ◌&&◌, ◌||◌, ◌==◌, Bool, true, false, not, cond, nat_lt, ℕ, List, length, slice_index_or, Option, Some, None, refl, sym, ap, ◌∙◌}
+use Rattle.std.proofs.Common.{arith, ◌≡◌, ◌<◌, ◌≤◌, ◌&&◌, ◌||◌, ◌==◌, Bool, true, false, not, cond, nat_lt, ℕ, List, length, slice_index_or, Option, Some, None, refl, ap, ◌∙◌}
 use Rattle.std.proofs.lemmas.Bool.{and_parts, and_left, or_left, false_from_ne_true, lt-ltb, le-ltb}
 use Rattle.std.specs.List.{position, position_or_len}
 use Rattle.std.proofs.lemmas.List.Sums.{position_or_len_is}
@@ -9,7 +9,7 @@ use Rattle.chip_regs.specs.declared.registers.Cause.TheVariants as cause
 use Rattle.desk_law.specs.declared.stage.Stage.{Stage}
 use Rattle.desk_law.specs.declared.stage.Stage.TheVariants as stage
 use Rattle.desk_law.specs.declared.ticket.Ticket.{Ticket}
-use Rattle.desk_law.specs.Desk.{DeskState, no_ticket, ticket, lives, is_queued, is_sensing}
+use Rattle.desk_law.specs.Desk.{no_ticket, ticket, lives, is_queued, is_sensing}
 use Rattle.desk_law.specs.Rings.{passed, waits}
 use Rattle.driver_desk.specs.Conditions.{MayEnd}
 use Rattle.driver_desk.proofs.Stages.{running_lives}

@@ -1,12 +1,11 @@
 -- A ticket in a stage other than Freed was built, and a caller of whom a signal is due is one of the work.
-use Rattle.std.proofs.Common.{arith, ◌≡◌, ◌<◌, ◌≤◌, ◌==◌, ◌&&◌, Bool, ℕ, zero, suc, not, true, false, List, [], ◌∷◌, length, slice_index_or, Some, refl, ap}
-use Rattle.desk_law.specs.declared.stage.Stage.{Stage}
+use Rattle.std.proofs.Common.{arith, ◌≡◌, ◌<◌, ◌≤◌, ◌==◌, ℕ, zero, suc, not, true, false, List, [], ◌∷◌, length, slice_index_or, Some, refl, ap}
 use Rattle.desk_law.specs.declared.stage.Stage.TheVariants as stage
 use Rattle.desk_law.specs.declared.ticket.Ticket.{Ticket}
 use Rattle.std.proofs.lemmas.Bool.{and_parts}
 use Rattle.std.proofs.lemmas.List.Quantifiers.{position-Some}
 use Rattle.desk_law.specs.Desk.{DeskState, no_ticket, ticket, ticket_at, has_block, lives, is_freed, due}
-use Rattle.driver_desk.specs.Conditions.{MayQueue, MayEnd, IsEnded}
+use Rattle.driver_desk.specs.Conditions.{MayQueue, IsEnded}
 use Rattle.driver_desk.proofs.Stages.{queueable_lives, ended_lives}
 
 within : (ks : List Ticket) (t : ℕ) → is_freed (slice_index_or ks t no_ticket).stage ≡ false → t < length ks

@@ -1,6 +1,5 @@
 -- What a device tells of its units.
 use Rattle.std.proofs.Common.{◌≡◌, ℕ, List, slice_get, Option, Some, None, refl}
-use Rattle.rig_types.specs.declared.rig.Unit.{Unit as RigUnit}
 use Rattle.unit_law.specs.declared.entry.LogEntry.{LogEntry}
 use Rattle.plain_lun.specs.Performing.{blocks_at}
 use Rattle.target_law.specs.Target.{LogicalUnit}

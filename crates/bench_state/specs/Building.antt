@@ -1,5 +1,5 @@
 -- What Build makes of a line that the desk refuses, and of one that it takes (own).
-use Rattle.std.specs.Prelude.{◌≡◌, ◌<◌, ◌++◌, ◌∷◌, ℕ, List, [], length, slice_set, slice_index_or, Option, Some, None}
+use Rattle.std.specs.Prelude.{◌<◌, ◌++◌, ◌∷◌, ℕ, List, [], length, slice_set, slice_index_or, Option, Some, None}
 use Rattle.rig_types.specs.declared.commands.Command.{Command}
 use Rattle.unit_law.specs.Request.{RequestData, plain}
 use Rattle.bus_law.specs.Bus.{BusState}

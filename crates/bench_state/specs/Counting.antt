@@ -1,7 +1,7 @@
 -- Lines that are settled, counted: they were refused, or their ticket is freed (own).
 use Rattle.std.specs.Prelude.{◌≡◌, ℕ, ◌+◌, ◌^◌, ◌<◌, Bool, true, false, not, List, sum_by, count_by}
 use Rattle.desk_law.specs.declared.ticket.Ticket.{Ticket}
-use Rattle.desk_law.specs.Desk.{DeskState, lives}
+use Rattle.desk_law.specs.Desk.{lives}
 use Rattle.world_law.specs.declared.reply.Decided.{Decided}
 use Rattle.world_law.specs.declared.reply.Decided.TheVariants as line
 use Rattle.world_law.specs.World.{World}

@@ -5,3 +5,4 @@ pub mod Counting
 pub mod Driving
 pub mod Making
 pub mod Building
+pub mod LastLines

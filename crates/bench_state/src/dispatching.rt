@@ -3,6 +3,7 @@
 ghost use Rattle.std.specs.Prelude.{◌≡◌, ◌<◌, ◌+◌, ◌^◌, ◌↔◌, IsTrue, length, sum};
 ghost use Rattle.world_law.specs.Enabling.{Enabled};
 ghost use Rattle.bench_state.specs.Counting.{IsCounted};
+ghost use Rattle.bench_state.specs.LastLines.{OnlyLastIsHeld};
 ghost use Rattle.bench_state.specs.Making.{Makes};
 
 use crate::state::State;
@@ -12,7 +13,8 @@ use world_law::Reply;
 impl State {
     /// Whether a caller may make a step.
     pub fn is_enabled(&self, caller: u32, step: Step) -> bool
-        requires { IsCounted self.now.world }
+        requires counted { IsCounted self.now.world }
+        requires held { OnlyLastIsHeld self.now.world }
         ensures { IsTrue result ↔ Enabled self.now.setting self.now.world caller step }
     {
         match step {

@@ -17,6 +17,7 @@ mod freeing;
 mod least;
 mod making;
 mod opening;
+mod owners;
 mod reading;
 mod recording;
 mod repairing;

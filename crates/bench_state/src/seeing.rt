@@ -6,6 +6,7 @@ ghost use Rattle.world_law.specs.Lines.{settled};
 ghost use Rattle.world_law.specs.Seeing.{ticket_named, stage_of, seen};
 ghost use Rattle.world_law.specs.Stops.{is_ended_by_script, is_done};
 ghost use Rattle.bench_state.specs.Counting.{IsCounted};
+ghost use Rattle.bench_state.specs.LastLines.{OnlyLastIsHeld};
 
 use crate::state::State;
 use cmd_block::{ENDED, Field, NO_TARGET, read};
@@ -52,7 +53,8 @@ impl State {
 
     /// What a caller sees whose step isn't enabled.
     pub fn seen(&self, caller: u32, step: Step) -> Seen
-        requires { IsCounted self.now.world }
+        requires counted { IsCounted self.now.world }
+        requires held { OnlyLastIsHeld self.now.world }
         ensures { result ≡ seen self.now.setting self.now.world caller step }
     {
         Seen {

@@ -3,6 +3,4 @@ pub mod Firsts
 pub mod Turns
 pub mod Rounds
 pub mod Products
-pub mod Least
-pub mod Held
 pub mod Submitters

@@ -15,9 +15,10 @@ use Rattle.world_law.specs.Enabling.{Enabled, MayQueue}
 use Rattle.world_law.specs.Laws.{IsHeldBy}
 use Rattle.run_law.specs.Serial.{is_built, is_linked, step_of, own_least, tries_submitter, IsFirst}
 use Rattle.bench_core.specs.Histories.{IsReplayed}
-use Rattle.serial_run.specs.Histories.{accepted_as, last_ticket, tries_last}
-use Rattle.serial_run.proofs.Least.{least_at, least_none, passes_within}
-use Rattle.serial_run.proofs.Held.{last_held}
+use Rattle.bench_state.specs.LastLines.{accepted_as, last_ticket}
+use Rattle.serial_run.specs.Histories.{tries_last}
+use Rattle.bench_state.proofs.LeastPassing.{least_at, least_none, passes_within}
+use Rattle.bench_core.proofs.Held.{last_held}
 
 -- ---- along the tries
 

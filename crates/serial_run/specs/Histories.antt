@@ -1,14 +1,12 @@
 -- The serial run over histories: what a turn and a round of callers make of the list and the world, and which history is that of a seed (own).
-use Rattle.std.specs.Prelude.{◌≡◌, ℕ, ◌-◌, List, [], ◌∷◌, ◌++◌, length, Option, Some, None}
-use Rattle.rig_types.specs.declared.step.Line.{Line}
+use Rattle.std.specs.Prelude.{◌≡◌, ℕ, List, [], ◌∷◌, ◌++◌, length, Option, Some, None}
 use Rattle.rig_types.specs.declared.step.Step.{Step}
 use Rattle.rig_types.specs.declared.step.Step.TheVariants as step
-use Rattle.world_law.specs.declared.reply.Decided.{Decided}
-use Rattle.world_law.specs.declared.reply.Decided.TheVariants as line
-use Rattle.world_law.specs.World.{BenchSetting, World, lines_of, decided}
+use Rattle.world_law.specs.World.{BenchSetting, World, lines_of}
 use Rattle.world_law.specs.Opening.{opened}
 use Rattle.world_law.specs.Runs.{Moment, last, entries}
 use Rattle.run_law.specs.Serial.{step_of, tries_of, is_over, TriesUnless, Round, IsSerial}
+use Rattle.bench_state.specs.LastLines.{last_ticket}
 use Rattle.bench_core.specs.Histories.{History}
 
 -- the list and the world of the serial run of a rig, a work and a seed
@@ -32,19 +30,6 @@ pub record IsRound (word : ℕ) (old new : History) : Type 0 where
   pub moments : List Moment
   pub round : Round old.setting (length old.entries) word old.world moments new.world
   pub entries : new.entries ≡ old.entries ++ entries moments
-
--- the last line of a submitter that is decided; its first where none is
-abbrev pub last_line : World → (submitter : ℕ) → Line
-last_line w s = record { submitter = s; number = length (lines_of w s) - 1 }
-
--- the ticket of a line that was accepted
-abbrev pub accepted_as : Decided → Option ℕ
-accepted_as line.Open = None
-accepted_as (line.Accepted t) = Some t
-accepted_as (line.Refused r) = None
-
-abbrev pub last_ticket : World → (submitter : ℕ) → Option ℕ
-last_ticket w s = accepted_as (decided w (last_line w s))
 
 -- what a submitter tries, where of its tickets only that of its last line may be entered or queued
 abbrev pub tries_last : World → (submitter : ℕ) → List Step

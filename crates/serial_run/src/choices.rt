@@ -5,7 +5,8 @@ ghost use Rattle.std.specs.Prelude.{◌≡◌, ◌<◌, ◌∷◌, [], length};
 ghost use Rattle.rig_types.specs.declared.step.Step.TheVariants as step;
 ghost use Rattle.desk_law.specs.Desk.{aborter};
 ghost use Rattle.run_law.specs.Serial.{IsFirst, tries_aborter, tries_of, tries_reaper, tries_submitter};
-ghost use Rattle.serial_run.specs.Histories.{last_ticket, tried, tries_last};
+ghost use Rattle.bench_state.specs.LastLines.{last_ticket};
+ghost use Rattle.serial_run.specs.Histories.{tried, tries_last};
 
 use bench_core::Bench;
 use rig_types::{Line, Step};

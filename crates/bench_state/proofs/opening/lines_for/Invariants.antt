@@ -1,4 +1,4 @@
-use Rattle.std.proofs.Common.{◌≡◌, List, [], length, replicate}
+use Rattle.std.proofs.Common.{◌≡◌, [], length, replicate}
 use Rattle.bench_state.specs.States.{decided_of}
 use Rattle.bench_state.proofs.OpeningLines.{HasRoomsBelow}
 use Rattle.bench_state.proofs.opening.lines_for.Given as goal

@@ -1,4 +1,4 @@
-use Rattle.std.proofs.Common.{arith, ◌≡◌, ◌<◌, ◌≤◌, List, [], length, slice_index_or, sym, ap, subst}
+use Rattle.std.proofs.Common.{arith, ◌≡◌, ◌<◌, List, [], length, slice_index_or, sym, ap, subst}
 use Rattle.rig_types.specs.declared.rig.Rig.{Rig}
 use Rattle.rig_types.specs.declared.report.Report.{Report}
 use Rattle.world_law.specs.World.{commands_of, lines_of}

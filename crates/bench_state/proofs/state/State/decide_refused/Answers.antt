@@ -1,4 +1,4 @@
-use Rattle.std.proofs.Common.{arith, ◌≡◌, ◌<◌, List, [], length, slice_index_or, sym, subst}
+use Rattle.std.proofs.Common.{arith, ◌≡◌, ◌<◌, [], length, slice_index_or, sym, subst}
 use Rattle.world_law.specs.World.{commands_of, lines_of}
 use Rattle.bench_state.specs.States.{BenchState, setting_of, decided_of}
 use Rattle.bench_state.proofs.NextLines.{may_decide, refused_within}

@@ -1,4 +1,4 @@
-use Rattle.std.proofs.Common.{arith, ◌≤◌, ◌+◌, [], length, slice_index_or, subst, ap, ◌∙◌, ◌≡◌, ℕ}
+use Rattle.std.proofs.Common.{arith, ◌≤◌, ◌+◌, [], length, slice_index_or, subst, ℕ}
 use Rattle.bench_state.specs.States.{rooms_of}
 use Rattle.bench_state.proofs.NextLines.{one_submitter_few}
 use Rattle.bench_state.proofs.MoreLines.{extended_all}

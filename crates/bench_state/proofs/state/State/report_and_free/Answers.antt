@@ -1,6 +1,4 @@
-use Rattle.std.proofs.Common.{◌≡◌, ◌-◌, ◌+◌, ℕ, length, sym, ap, subst, ◌∙◌}
-use Rattle.rig_types.specs.declared.report.Report.{Report}
-use Rattle.std.specs.Prelude.{List}
+use Rattle.std.proofs.Common.{◌≡◌, sym, subst}
 use Rattle.desk_law.specs.declared.stage.Stage.TheVariants.{Unlinked}
 use Rattle.desk_law.specs.Desk.{ticket}
 use Rattle.bench_state.specs.States.{BenchState}

@@ -1,4 +1,4 @@
-use Rattle.std.proofs.Common.{◌≡◌, ◌∙◌, sym, ap, subst}
+use Rattle.std.proofs.Common.{◌∙◌, sym, ap, subst}
 use Rattle.std.specs.Prelude.{IsSome, count_by}
 use Rattle.desk_law.specs.Desk.{DeskState, lives}
 use Rattle.desk_law.specs.Rings.{done_ticket}

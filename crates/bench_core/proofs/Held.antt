@@ -1,15 +1,17 @@
 -- Of a submitter's tickets only that of its last decided line is ever one that it has still to enter or to queue: a ticket that is so blocks the
 -- submitter's next Build.
-use Rattle.std.proofs.Common.{arith, ◌≡◌, ◌≢◌, ◌<◌, ◌-◌, ◌+◌, ◌==◌, ◌&&◌, ◌||◌, Bool, true, false, ℕ, zero, suc, List, [], ◌∷◌, ◌++◌, length, slice_set, slice_index_or, Option, Some, None, refl, sym, ap, subst, ◌∙◌, inl, inr}
+use Rattle.std.proofs.Common.{arith, ◌≡◌, ◌≢◌, ◌<◌, ◌≤◌, nat_lt, ◌-◌, ◌+◌, ◌==◌, ◌&&◌, ◌||◌, Bool, true, false, ℕ, zero, suc, List, [], ◌∷◌, ◌++◌, length, slice_set, slice_index_or, Option, Some, None, refl, sym, ap, subst, ◌∙◌, inl, inr}
 use Rattle.std.proofs.lemmas.Bool.Decides.{nat_tests}
-use Rattle.std.proofs.lemmas.List.{length-set, length-append, length-replicate}
+use Rattle.std.proofs.lemmas.List.{length-set, length-append, length-replicate, get_or_past}
 use Rattle.rig_types.specs.declared.commands.Command.{Command}
 use Rattle.rig_types.specs.declared.step.Entry.{Entry}
 use Rattle.rig_types.specs.declared.step.Line.{Line}
 use Rattle.rig_types.specs.declared.step.Step.{Step}
 use Rattle.rig_types.specs.declared.step.Step.TheVariants as step
 use Rattle.desk_law.specs.declared.ticket.Ticket.{Ticket}
-use Rattle.desk_law.specs.Desk.{DeskState, no_ticket, ticket}
+use Rattle.desk_law.specs.declared.stage.Stage.{Stage}
+use Rattle.desk_law.specs.declared.stage.Stage.TheVariants as stage
+use Rattle.desk_law.specs.Desk.{DeskState, no_ticket, ticket, is_freed}
 use Rattle.world_law.specs.declared.reply.Decided.{Decided}
 use Rattle.world_law.specs.declared.reply.Decided.TheVariants as line
 use Rattle.world_law.specs.declared.reply.Reply.{Reply}
@@ -21,13 +23,16 @@ use Rattle.world_law.specs.Enabling.{Enabled}
 use Rattle.world_law.specs.Builds.{refuses, is_tried_again, BuildsBy, BuildsOf}
 use Rattle.world_law.specs.Steps.{Does}
 use Rattle.world_law.specs.Runs.{Moment, Steps, IsRun, last}
-use Rattle.world_law.specs.Laws.{IsHeldBy, LeavesSubmitter}
+use Rattle.world_law.specs.Laws.{IsHeldBy, LeavesSubmitter, IsMatched}
 use Rattle.world_law.proofs.Callers.{leaves_submitter}
+use Rattle.world_law.proofs.TicketsKept.{lines_match}
 use Rattle.world_law.proofs.Effects.{Effect, LinesGo, effect}
 use Rattle.bus_law.proofs.OneConnected.{same-or-not}
-use Rattle.bench_core.specs.Histories.{IsReplayed}
-use Rattle.serial_run.specs.Histories.{last_line}
-use Rattle.serial_run.proofs.Least.{at, none_passes}
+use Rattle.bench_core.specs.Histories.{IsReplayed, IsBench}
+use Rattle.bench_core.proofs.Settled.{lines_of_run}
+use Rattle.bench_state.specs.LastLines.{last_line, accepted_as, OnlyLastIsHeld}
+use Rattle.bench_state.proofs.LeastPassing.{at, none_passes}
+use Rattle.bench_state.proofs.TicketLaws.{is_there}
 
 record HoldsLast (s : ℕ) (w : World) : Type 0 where
   pub below : s < w.desk.submitters
@@ -237,3 +242,30 @@ pub last_held : (g : BenchSetting) (es : List Entry) (w : World) (s t : ℕ) →
 last_held g es w s t r l h =
     let x : HoldsLast s w = subst (λ (v : World). HoldsLast s v) r.world (run-holds g s r.moments (opened g) r.run (opening-holds g s l)) in
     x.held t h
+
+-- no ticket is of a number that no submitter has
+unfreed : (st : Stage) → is_unqueued st ≡ true → is_freed st ≡ false
+unfreed stage.Built e = refl
+unfreed stage.Linked e = refl
+unfreed _ e = absurd cc
+
+none-behind : (g : BenchSetting) (es : List Entry) (w : World) (s t : ℕ) → IsReplayed g es w → length g.submitters ≤ s → IsHeldBy s (ticket w.desk t) → ⊥
+none-behind g es w s t r l h =
+    let matched : IsMatched w = subst (λ (v : World). IsMatched v) r.world (lines_match g r.moments r.run) in
+    let accepted : decided w (ticket w.desk t).line ≡ line.Accepted t = matched.of_ticket t (is_there w.desk t (unfreed (ticket w.desk t).stage h.1)) in
+    let none : lines_of w s ≡ [] = get_or_past w.lines s [] (omega (arith, l, (lines_of_run g es w r).many)) in
+    let open-line : decided w (ticket w.desk t).line ≡ line.Open =
+    ap (λ (i : ℕ). slice_index_or (lines_of w i) (ticket w.desk t).line.number line.Open) h.0
+    ∙ ap (λ (ls : List Decided). slice_index_or ls (ticket w.desk t).line.number line.Open) none in
+    let clash : line.Open ≡ line.Accepted t = sym open-line ∙ accepted in
+    absurd cc
+
+pub only_last_is_held : (g : BenchSetting) (es : List Entry) (w : World) → IsReplayed g es w → OnlyLastIsHeld w
+only_last_is_held g es w r s t h = by (nat_lt s (length g.submitters)) refl
+  where
+    by : (b : Bool) → nat_lt s (length g.submitters) ≡ b → accepted_as (decided w (last_line w s)) ≡ Some t
+    by true e = ap accepted_as (last_held g es w s t r (grind (arith, nat_tests, e)) h)
+    by false e = absurd (none-behind g es w s t r (grind (arith, nat_tests, e)) h)
+
+pub bench_held : (g : BenchSetting) (es : List Entry) (w : World) (capacity : ℕ) → IsBench g es w capacity → OnlyLastIsHeld w
+bench_held g es w capacity h = only_last_is_held g es w h.replayed

@@ -1,7 +1,0 @@
-use Rattle.std.proofs.Common.{◌≡◌, ◌<◌, ℕ, false}
-use Rattle.desk_law.specs.Desk.{ticket}
-use Rattle.world_law.specs.Lines.{blocks}
-use Rattle.bench_state.proofs.state.State.blocking.Given as goal
-
-abbrev pub invariant-loop-t : goal.invariant-loop-t
-invariant-loop-t l = (k : ℕ) → k < l.t → blocks l.submitter l.waits (ticket l.self.world.desk k) ≡ false
