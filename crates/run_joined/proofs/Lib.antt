@@ -12,3 +12,5 @@ pub mod WordSteps
 pub mod ChipCalls
 pub mod JoinedRuns
 pub mod BlockWords
+pub mod Buffers
+pub mod Reports

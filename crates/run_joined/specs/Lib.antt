@@ -5,3 +5,4 @@ pub mod Joined
 pub mod ChipCalls
 pub mod JoinedRuns
 pub mod BlockWords
+pub mod Reports
