@@ -58,7 +58,7 @@ use Rattle.block_words.proofs.Turned.{turned_of, turned-same}
 low-byte : (m : List ℕ) (a : ℕ) → IsBytes m → slice_index m a ≡ word_at m a % 256
 low-byte m a h = let e = word_at-plus m a in let b = h.below a in omega (arith, e, b)
 
-bytes-kept : (m n : List ℕ) (a k : ℕ) → IsBytes m → IsBytes n → ((i : ℕ) → i < k → word_at n (a + i) ≡ word_at m (a + i)) → bytes_at n a k ≡ bytes_at m a k
+pub bytes-kept : (m n : List ℕ) (a k : ℕ) → IsBytes m → IsBytes n → ((i : ℕ) → i < k → word_at n (a + i) ≡ word_at m (a + i)) → bytes_at n a k ≡ bytes_at m a k
 unfolding bytes_at
 bytes-kept m n a zero h o e = refl
 bytes-kept m n a (suc k) h o e =

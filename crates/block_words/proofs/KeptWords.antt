@@ -97,7 +97,7 @@ one-of-two : (b : Bool) → (if b then 1 else 0) ≤ 1
 one-of-two true = omega arith
 one-of-two false = omega arith
 
-few-context : (savep : ℕ) → free_context savep ≤ 1
+pub few-context : (savep : ℕ) → free_context savep ≤ 1
 few-context savep = one-of-two _
 
 accepted-as : (x t : ℕ) → x ≡ t → (x == t) ≡ true
@@ -158,7 +158,7 @@ module _ (version : ℕ) (units : List RigUnit) (s : Spot) (c : Counts) (w : Wor
   byte-kept i l g (inl (inl x)) = omega (arith, x.1, l, place.from)
   byte-kept i l g (inl (inr (inl x))) = omega (arith, x.1, h.donep.is, l, place.from)
   byte-kept i l g (inl (inr (inr x))) =
-      let p = h.tickets.block x.number x.live in
+      let p = h.tickets.block x.number (active-live _ x.active) in
       let low_end = kept-low o kept in
       elim (same_or x.number t) [
         | inl z ↦
@@ -174,7 +174,7 @@ module _ (version : ℕ) (units : List RigUnit) (s : Spot) (c : Counts) (w : Wor
               | inr y ↦ elim (beside-loose o 0x1C kept (inr (inl (omega arith, omega arith)))) [ inl k ↦ omega (arith, q, y, g, k) | inr k ↦ omega (arith, q, y, l, k) ]
             ]
         | inr z ↦
-            let ne : (ticket w.desk x.number).block ≢ b = h.tickets.blocks x.number t x.live live z in
+            let ne : (ticket w.desk x.number).block ≢ b = h.tickets.blocks x.number t (active-live _ x.active) live z in
             let q : w.regs.dsa ≡ (ticket w.desk x.number).block = x.dsa in
             elim x.field [
               | inl y ↦ omega (arith, q, y, l, g, low_end, p.aligned, place.aligned, ne)
@@ -188,7 +188,7 @@ module _ (version : ℕ) (units : List RigUnit) (s : Spot) (c : Counts) (w : Wor
   byte-kept i l g (inr x) =
       let f = (tickets_of w.desk).fixed x.number in
       let low_end = kept-low o kept in
-      moved-beside f i (omega (arith, l)) (omega (arith, g, low_end)) (h.tickets.block x.number x.live) (λ j k. (h.tickets.within x.number j x.live k).0) f.turned refl x.own.0 x.own.1 x.own.2
+      moved-beside f i (omega (arith, l)) (omega (arith, g, low_end)) (h.tickets.block x.number (active-live _ x.active)) (λ j k. (h.tickets.within x.number j (active-live _ x.active) k).0) f.turned refl x.own.0 x.own.1 x.own.2
 
   pub chip-stays : (m : List ℕ) → ((i : ℕ) → slice_index m i ≢ slice_index w.memory i → IsScripts w i ⊎ IsDatum w i) → Stays m
   chip-stays m only =

@@ -4,3 +4,9 @@ mod Marks
 mod Turned
 mod Commands
 mod LiveWords
+mod WrittenMemory
+mod EndedBlocks
+mod HeldBuffers
+mod EndedTickets
+mod EndedDesks
+mod EndedReports

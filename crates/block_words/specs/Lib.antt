@@ -2,3 +2,5 @@ pub mod KeptWords
 pub mod Marks
 pub mod Commands
 pub mod LiveWords
+pub mod EndedWords
+pub mod EndedReports

@@ -114,12 +114,12 @@ module _ (version : ℕ) (units : List RigUnit) (p : Point) (c : Counts) (w : Wo
       → ((8 ≤ o) × (o + 4 ≤ 0x14)) ⊎ (o ≡ 0x1C) → Kept w new
   block-kept t k o e d inside from f field =
       let ts = tickets_of w.desk in
-      let live = active-live (ts.stage t) (worker-active (role (about p).work) (word_at w.memory) ts c t e h.works.plays) in
+      let active = worker-active (role (about p).work) (word_at w.memory) ts c t e h.works.plays in
       kept-by (range_at (place_of w.memory w.regs.dsa (pos o) 4) 4) (changes k (Relative 4 (pos o)) inside from f) (λ i x.
       let y = in-relative w.memory w.regs.dsa o 4 i x in
       inr (inr (record {
         number = t;
-        live = live;
+        active = active;
         dsa = d;
         field = elim field [ inl z ↦ inl (omega (arith, y.0, z.0), omega (arith, y.1, z.1)) | inr z ↦ inr (omega (arith, y.0, z), omega (arith, y.1, z)) ];
       })))
@@ -142,7 +142,7 @@ status-kept version units t c w h new word answer run =
     let m = moves_from w.desk.units (live w.desk) word 0x30 (block_of ts t + 0x30) 1 (block_of ts t + 0x14) 3 (after_fetch (chip_of w)) run.end run.chip at h.size (omega (arith, b.below)) (ap (λ (x : ℕ). x % 16777216) s.0) (ap (word_at w.memory) e ∙ s.1)
     (row version units (At0C8 t) c w h new word answer run 25 (MoveFrom (pos 0x30) 3) (omega arith) refl refl) in
     let mem : new.memory ≡ run.chip.memory = ap (λ (x : World). x.memory) run.world in
-    let here : (i : ℕ) → block_of ts t + 0x14 ≤ i → i < block_of ts t + 0x15 → IsScripts w i = λ i from below. inr (inr (record { number = t; live = l; dsa = d; field = inl (omega (arith, d, from), omega (arith, d, below)) })) in
+    let here : (i : ℕ) → block_of ts t + 0x14 ≤ i → i < block_of ts t + 0x15 → IsScripts w i = λ i from below. inr (inr (record { number = t; active = h.works.plays.begun.stage; dsa = d; field = inl (omega (arith, d, from), omega (arith, d, below)) })) in
     let kept : ((i : ℕ) → (i < block_of ts t + 0x14) ⊎ (block_of ts t + 0x15 ≤ i) → slice_index run.chip.memory i ≡ slice_index w.memory i) → Kept w new = λ other i ne. elim (cases_lt i (block_of ts t + 0x14)) [
       | inl y ↦ absurd (ne (ap (λ (x : List ℕ). slice_index x i) mem ∙ other i (inl y)))
       | inr y ↦ elim (cases_lt i (block_of ts t + 0x15)) [
@@ -365,7 +365,7 @@ above version units (LeavesContext t phase j k) c w new word answer run h = inl 
 below-buffers : (version : ℕ) (units : List RigUnit) (p : Point) (c : Counts) (w : World) (i : ℕ) → Holds version units (Running p) c w → IsScripts w i → i < 0x200000
 below-buffers version units p c w i h (inl x) = omega (arith, x.1)
 below-buffers version units p c w i h (inr (inl x)) = omega (arith, x.1, h.donep.is)
-below-buffers version units p c w i h (inr (inr x)) = let b = h.tickets.block x.number x.live in elim x.field [ inl y ↦ omega (arith, y.1, x.dsa, b.below) | inr y ↦ omega (arith, y.1, x.dsa, b.below) ]
+below-buffers version units p c w i h (inr (inr x)) = let b = h.tickets.block x.number (active-live _ x.active) in elim x.field [ inl y ↦ omega (arith, y.1, x.dsa, b.below) | inr y ↦ omega (arith, y.1, x.dsa, b.below) ]
 
 pub only_data_moves_write : OnlyDataMovesWrite
 only_data_moves_write version units p c w new word answer a run h l ne = elim (above version units p c w new word answer run h) [
@@ -381,7 +381,7 @@ datum : (version : ℕ) (units : List RigUnit) (t : ℕ) (m : DataMove) (c : Cou
 datum version units t m c w new word answer x run h ne =
     let d = data_stay version units t m c w new word answer run h in
     let change = d.changes x ne in
-    record { move = ap (λ (i : ℕ). is_some (move_at i)) h.stays.3 ∙ ap (λ (o : Option DataMove). is_some o) h.works.extra.at; number = t; live = d.live; dsa = d.dsa; own = change.0; target = change.1 }
+    record { move = ap (λ (i : ℕ). is_some (move_at i)) h.stays.3 ∙ ap (λ (o : Option DataMove). is_some o) h.works.extra.at; number = t; active = h.works.plays.begun.stage; dsa = d.dsa; own = change.0; target = change.1 }
 
 module _ (version : ℕ) (units : List RigUnit) (c : Counts) (w new : World) (word : ℕ) (answer : Reply) (x : ℕ) (run : RunsChip w word answer new) (ne : slice_index new.memory x ≢ slice_index w.memory x) where
   at-point : (p : Point) → Holds version units (Running p) c w → IsScripts w x ⊎ IsDatum w x

@@ -11,7 +11,7 @@ use Rattle.world_law.specs.Runs.{Moment, IsRun, last}
 use Rattle.world_law.specs.World.{BenchSetting, IsBenchSetting, World}
 use Rattle.world_law.specs.declared.reply.Reply.{Reply}
 use Rattle.world_law.specs.declared.reply.Stop.TheVariants.{Run}
-use Rattle.word_owners.specs.Tickets.{tickets_of, block_of, target_of, IsLive}
+use Rattle.word_owners.specs.Tickets.{tickets_of, block_of, target_of, IsActive}
 use Rattle.word_owners.specs.Buffers.{IsOwn}
 use Rattle.word_owners.specs.Worlds.{HasBytes}
 
@@ -27,21 +27,21 @@ IsDoneSlot w x = (word_at w.memory DONEP ≤ x) × (x < word_at w.memory DONEP +
 abbrev pub IsWritable : (block x : ℕ) → Type 0
 IsWritable block x = ((block + offset Lastp ≤ x) × (x ≤ block + offset Status)) ⊎ ((block + offset Gate ≤ x) × (x < block + offset Gate + 4))
 
--- of the block of a live ticket, which is at DSA
+-- of the block of a ticket that is with the chip, which is at DSA
 pub record IsOfBlock (w : World) (x : ℕ) : Type 0 where
   pub number : ℕ
-  pub live : IsLive ((tickets_of w.desk).stage number)
+  pub active : IsActive ((tickets_of w.desk).stage number)
   pub dsa : w.regs.dsa ≡ block_of (tickets_of w.desk) number
   pub field : IsWritable w.regs.dsa x
 
 abbrev pub IsScripts : World → ℕ → Type 0
 IsScripts w x = IsShared x ⊎ (IsDoneSlot w x ⊎ IsOfBlock w x)
 
--- or a byte of what a live ticket moves, at a data move, while its unit's target is connected
+-- or a byte of what such a ticket moves, at a data move, while its unit's target is connected
 pub record IsDatum (w : World) (x : ℕ) : Type 0 where
   pub move : is_some (move_at w.regs.dsp) ≡ true
   pub number : ℕ
-  pub live : IsLive ((tickets_of w.desk).stage number)
+  pub active : IsActive ((tickets_of w.desk).stage number)
   pub dsa : w.regs.dsa ≡ block_of (tickets_of w.desk) number
   pub own : IsOwn ((tickets_of w.desk).fixed number) x
   pub target : w.bus.connected ≡ Some (target_of (tickets_of w.desk) number)

@@ -23,7 +23,7 @@ pub fn tests_never_fail()
 {}
 
 /// The footprint of the script, in every world of every run: a step of a chip that runs changes only the words FRONT, RINGP,
-/// DONEP and CUR, the byte MSGIN, the done slot that DONEP names, which is idle, and of the block of a live ticket at DSA its
+/// DONEP and CUR, the byte MSGIN, the done slot that DONEP names, which is idle, and of the block at DSA of a ticket with the chip its
 /// LASTP, SAVEP, STATE, GATE and the byte of STATUS; or, at a data move, bytes of what that ticket moves, while its unit's
 /// target is connected.
 pub fn script_writes_only()
