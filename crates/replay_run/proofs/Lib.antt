@@ -1,0 +1,4 @@
+pub mod OneReplay
+pub mod LineCallers
+pub mod MadeSteps
+pub mod MadeLines
