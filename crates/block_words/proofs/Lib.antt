@@ -10,3 +10,5 @@ mod HeldBuffers
 mod EndedTickets
 mod EndedDesks
 mod EndedReports
+mod PlainSteps
+mod ReportedRuns

@@ -27,11 +27,11 @@ use Rattle.word_owners.specs.BenchSteps.{is_build}
 use Rattle.word_owners.specs.Tickets.{IsLive}
 use Rattle.run_joined.proofs.Rigs.{none-built}
 
-append-one : (ns : List Moment) (m : Moment) (ms : List Moment) → (ns ++ m ∷ []) ++ ms ≡ ns ++ m ∷ ms
+pub append-one : (ns : List Moment) (m : Moment) (ms : List Moment) → (ns ++ m ∷ []) ++ ms ≡ ns ++ m ∷ ms
 append-one [] m ms = refl
 append-one (n ∷ ns) m ms = ap (λ (z : List Moment). n ∷ z) (append-one ns m ms)
 
-append-none : (ns : List Moment) → ns ++ [] ≡ ns
+pub append-none : (ns : List Moment) → ns ++ [] ≡ ns
 append-none [] = refl
 append-none (n ∷ ns) = ap (λ (z : List Moment). n ∷ z) (append-none ns)
 

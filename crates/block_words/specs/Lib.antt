@@ -4,3 +4,4 @@ pub mod Commands
 pub mod LiveWords
 pub mod EndedWords
 pub mod EndedReports
+pub mod ReportedRuns

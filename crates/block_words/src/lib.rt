@@ -3,9 +3,11 @@
 
 mod ended_laws;
 mod laws;
+mod reported_laws;
 
 pub use ended_laws::{agreements_stay, buffers_stay, ended_blocks_stay, ended_tickets_stay};
 pub use laws::{
     commands_are_told, lives_of_rules, marks_agree, marks_are_told, state_and_status_tell,
     words_stay,
 };
+pub use reported_laws::{reported_runs_fit, reports_stay, runs_report};

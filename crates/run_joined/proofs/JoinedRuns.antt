@@ -54,7 +54,7 @@ append-none [] = refl
 append-none (n ∷ ns) = ap (λ (z : List Moment). n ∷ z) (append-none ns)
 
 -- the plan of a run was that of the world before it
-plan-before : (g : BenchSetting) (p : Plan) (w : World) (ms : List Moment) → IsRun g w ms → IsPlanOf g (last w ms) p → IsPlanOf g w p
+pub plan-before : (g : BenchSetting) (p : Plan) (w : World) (ms : List Moment) → IsRun g w ms → IsPlanOf g (last w ms) p → IsPlanOf g w p
 plan-before g p w [] r h = h
 plan-before g p w (m ∷ ms) r h = plans-stay g w m p r.0 (plan-before g p m.after ms r.1 h)
 
@@ -64,9 +64,9 @@ record RunTo (g : BenchSetting) (p : Plan) (ms : List Moment) (ks : ℕ → Tick
   joined : IsJoined g p w ks spare
   histories : (x : ℕ) → history g (unit_of p x) x (opened g) ms ≡ moved.history x moves
 
-module _ (g : BenchSetting) (p : Plan) (setting_of : IsBenchSetting g) (bytes : HasBytes g) (plan : IsPlan p (length g.units)) (words : WordsJoin g p) where
+module _ (g : BenchSetting) (p : Plan) where
   -- one step more
-  joined-on : (ns : List Moment) (m : Moment) (ks : ℕ → Ticket) → RunJoins g p ns ks → (x : StepJoins g p (last (opened g) ns) m ks) → RunJoins g p (ns ++ m ∷ []) x.tickets
+  pub joined-on : (ns : List Moment) (m : Moment) (ks : ℕ → Ticket) → RunJoins g p ns ks → (x : StepJoins g p (last (opened g) ns) m ks) → RunJoins g p (ns ++ m ∷ []) x.tickets
   joined-on ns m ks j x =
       let here : RunTo g p (ns ++ m ∷ []) x.tickets x.spare m.after = record {
         moves = appended j.moves x.moves;
@@ -79,13 +79,20 @@ module _ (g : BenchSetting) (p : Plan) (setting_of : IsBenchSetting g) (bytes : 
       let z = subst (RunTo g p (ns ++ m ∷ []) x.tickets x.spare) (sym (ends_after (opened g) ns m)) here in
       record { spare = x.spare; opens = j.opens; moves = z.moves; joined = z.joined; histories = z.histories }
 
+  -- at the opening
+  pub joined-opening : IsBenchSetting g → IsPlan p (length g.units) → IsPlanOf g (opened g) p → RunJoins g p [] no_tickets
+  joined-opening setting_of plan of =
+      let o = opening-is-joined g p setting_of plan of in
+      record { spare = λ n. 0; opens = o.0; moves = none; joined = o.1; histories = λ x. none-noted g (unit_of p x) x (opened g) }
+
+module _ (g : BenchSetting) (p : Plan) (setting_of : IsBenchSetting g) (bytes : HasBytes g) (plan : IsPlan p (length g.units)) (words : WordsJoin g p) where
   -- a step by the words, or one of the driver
   one-step : (ns : List Moment) (m : Moment) → IsRun g (opened g) ns → Steps g (last (opened g) ns) m → IsPlanOf g m.after p → IsJoinedRun g p ns → (b : Bool) → is_by_words m.entry.step ≡ b → IsJoinedRun g p (ns ++ m ∷ [])
   one-step ns m r s of x true e = words ns m r s e x
   one-step ns m r s of (ks, j) false e =
       let after : AreKept m.after.desk = subst (λ (w : World). AreKept w.desk) (ends_after (opened g) ns m) (depths_are_kept g setting_of bytes (ns ++ m ∷ []) (goes_on g (opened g) ns m r s)) in
       let x = driver-steps-join g p (last (opened g) ns) m ks j.spare setting_of of s (depths_are_kept g setting_of bytes ns r) after e j.joined in
-      (x.tickets, joined-on ns m ks j x)
+      (x.tickets, joined-on g p ns m ks j x)
 
   all-steps : (ns ms : List Moment) → IsRun g (opened g) ns → IsRun g (last (opened g) ns) ms → IsPlanOf g (last (last (opened g) ns) ms) p → IsJoinedRun g p ns → IsJoinedRun g p (ns ++ ms)
   all-steps ns [] r s of x = subst (IsJoinedRun g p) (sym (append-none ns)) x
@@ -95,14 +102,9 @@ module _ (g : BenchSetting) (p : Plan) (setting_of : IsBenchSetting g) (bytes : 
       (all-steps (ns ++ m ∷ []) ms (goes_on g (opened g) ns m r s.0) (subst (λ (w : World). IsRun g w ms) (sym e) s.1)
       (subst (λ (w : World). IsPlanOf g (last w ms) p) (sym e) of) (one-step ns m r s.0 (plan-before g p m.after ms s.1 of) x (is_by_words m.entry.step) refl))
 
-  opening : IsPlanOf g (opened g) p → RunJoins g p [] no_tickets
-  opening of =
-      let o = opening-is-joined g p setting_of plan of in
-      record { spare = λ n. 0; opens = o.0; moves = none; joined = o.1; histories = λ x. none-noted g (unit_of p x) x (opened g) }
-
 pub runs-join : RunsJoin
 runs-join g p ms setting_of bytes plan of r words =
-    all-steps g p setting_of bytes plan words [] ms tt r of (no_tickets, opening g p setting_of bytes plan words (plan-before g p (opened g) ms r of))
+    all-steps g p setting_of bytes plan words [] ms tt r of (no_tickets, joined-opening g p setting_of plan (plan-before g p (opened g) ms r of))
 
 -- ---- what follows
 only-freed : (l : Life) (s : Stage) → IsStage l s → is_live l ≡ false → (o : Outcome) × (l ≡ Freed o)
