@@ -1,0 +1,4 @@
+pub mod Runs
+pub mod SameWorks
+pub mod OneResults
+pub mod Replayed
