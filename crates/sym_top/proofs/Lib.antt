@@ -1,8 +1,12 @@
 pub mod Decimals
-pub mod Exact
+pub mod Passing
+pub mod CommandStages
+pub mod OneEnds
 pub mod OneCause
-pub mod PrintedLines
+pub mod OneCommand
+pub mod SpelledWords
+pub mod Finishing
+pub mod ValidFiles
+pub mod Exact
 pub mod Buffers
 pub mod OneTexts
-pub mod OneCommand
-pub mod Within

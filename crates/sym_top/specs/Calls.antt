@@ -4,22 +4,14 @@ use Rattle.std.specs.Option.{option_map}
 use Rattle.std.specs.Io.KnownBytes.{Appends}
 use Rattle.sym_io.specs.ByName.{FilesByName, with_file}
 use Rattle.sym_io.specs.Causes.{Rose}
-use Rattle.sym_top.specs.Jobs.{Job, Output, loaded_by, Makes, IsLong, IsShort, HasFault}
+use Rattle.refusal_lines.specs.Refusals.{exit_of, Says}
+use Rattle.refusal_lines.specs.declared.exit.Exit.{Exit}
+use Rattle.refusal_lines.specs.declared.exit.Exit.TheVariants as exits
+use Rattle.refusal_lines.specs.declared.refusal.Refusal.{Refusal}
+use Rattle.refusal_lines.specs.declared.refusal.Refusal.TheVariants as refusals
+use Rattle.run_files.specs.Shelves.{Shelved, IsKept, FailsLoad}
+use Rattle.sym_top.specs.Jobs.{Job, Output, first_loaded, Makes, Yields}
 use Rattle.sym_top.specs.CommandLine.{Command}
-use Rattle.sym_top.specs.Refusals.{exit_of, Says}
-use Rattle.sym_top.specs.declared.exit.Exit.{Exit}
-use Rattle.sym_top.specs.declared.exit.Exit.TheVariants as exits
-use Rattle.sym_top.specs.declared.refusal.Refusal.{Refusal}
-use Rattle.sym_top.specs.declared.refusal.Refusal.TheVariants as refusals
-
--- a shelf, by what it tells and its counts of loads and stores that failed
-pub record Shelved : Type 0 where
-  pub files : Option FilesByName
-  pub loads : ℕ
-  pub stores : ℕ
-
-abbrev pub shelved : Option FilesByName → ℕ → ℕ → Shelved
-shelved files loads stores = record { files = files; loads = loads; stores = stores }
 
 -- a sink, by what it tells and its count of faults
 pub record Sunk : Type 0 where
@@ -38,12 +30,6 @@ pub record Ends : Type 0 where
 
 abbrev pub ends : Shelved → Shelved → Sunk → Sunk → Ends
 ends shelf shelf' out out' = record { shelf = shelf; shelf' = shelf'; out = out; out' = out' }
-
--- no file is changed, and no load or store failed
-pub record IsKept (s s' : Shelved) : Type 0 where
-  pub files : s'.files ≡ s.files
-  pub loads : s'.loads ≡ s.loads
-  pub stores : s'.stores ≡ s.stores
 
 -- nothing is printed, and no write failed
 pub record IsSilent (s s' : Sunk) : Type 0 where
@@ -67,12 +53,6 @@ pub record Done (job : Job) (e : Ends) : Type 0 where
   pub out : e.out'.faults ≡ e.out.faults
   pub stored : e.shelf'.files ≡ files_with job.output e.shelf.files
   pub printed : Appends e.out.written e.out'.written job.text
-
--- a load failed: no file is changed, and no store failed
-pub record FailsLoad (s s' : Shelved) : Type 0 where
-  pub rose : Rose s.loads s'.loads
-  pub stores : s'.stores ≡ s.stores
-  pub files : s'.files ≡ s.files
 
 -- a store failed: no file is changed, and no load failed
 pub record FailsStore (s s' : Shelved) : Type 0 where
@@ -107,7 +87,8 @@ Stores o s s' (Err refusals.Usage) = ⊥
 Stores o s s' (Err refusals.Read) = ⊥
 Stores o s s' (Err refusals.Write) = FailsStore s s'
 Stores o s s' (Err refusals.OutOfMemory) = IsKept s s'
-Stores o s s' (Err (refusals.Source line fault)) = ⊥
+Stores o s s' (Err (refusals.Bad fault)) = ⊥
+Stores o s s' (Err refusals.StepLimit) = ⊥
 Stores o s s' (Err refusals.TooLong) = ⊥
 
 -- a job is finished, or refused
@@ -117,18 +98,20 @@ Finishes job e (Err refusals.Usage) = ⊥
 Finishes job e (Err refusals.Read) = ⊥
 Finishes job e (Err refusals.Write) = Unstored job e ⊎ Unprinted job e
 Finishes job e (Err refusals.OutOfMemory) = Leaves e
-Finishes job e (Err (refusals.Source line fault)) = ⊥
+Finishes job e (Err (refusals.Bad fault)) = ⊥
+Finishes job e (Err refusals.StepLimit) = ⊥
 Finishes job e (Err refusals.TooLong) = ⊥
 
 -- When a refusal of a command comes, and what it leaves. A load is blamed only where the command loads a file, and a
 -- store only where its job stores one.
 abbrev pub Refuses : Command → Ends → Refusal → Type 0
 Refuses c e refusals.Usage = ⊥
-Refuses c e refusals.Read = IsSome (loaded_by c) × Unloaded e
+Refuses c e refusals.Read = IsSome (first_loaded c) × Unloaded e
 Refuses c e refusals.Write = (job : Job) × Makes c e.shelf.files job × (Unstored job e ⊎ Unprinted job e)
-Refuses c e refusals.OutOfMemory = IsShort c e.shelf.files × Leaves e
-Refuses c e (refusals.Source line fault) = HasFault c e.shelf.files line fault × Leaves e
-Refuses c e refusals.TooLong = IsLong c e.shelf.files × Leaves e
+Refuses c e refusals.OutOfMemory = Yields c e.shelf.files (Err refusals.OutOfMemory) × Leaves e
+Refuses c e (refusals.Bad fault) = Yields c e.shelf.files (Err (refusals.Bad fault)) × Leaves e
+Refuses c e refusals.StepLimit = Yields c e.shelf.files (Err refusals.StepLimit) × Leaves e
+Refuses c e refusals.TooLong = Yields c e.shelf.files (Err refusals.TooLong) × Leaves e
 
 -- a command has run, or is refused
 abbrev pub Runs : Command → Ends → Result (Unit {0}) Refusal → Type 0

@@ -2,8 +2,7 @@ pub mod Asked
 pub mod Calls
 pub mod Causes
 pub mod CommandLine
-pub mod Exits
 pub mod OneText
 pub mod Jobs
 pub mod Making
-pub mod Refusals
+pub mod Stages

@@ -2,10 +2,11 @@
 ghost use Rattle.std.specs.Option.{option_map};
 ghost use Rattle.std.specs.Prelude.{◌≡◌, ◌≤◌, ℕ, IsNone};
 ghost use Rattle.sym_io.specs.ByName.{with_file};
-ghost use Rattle.sym_top.specs.Calls.{Finishes, ends, shelved, sunk, Stores};
+ghost use Rattle.run_files.specs.Shelves.{shelved};
+ghost use Rattle.sym_top.specs.Calls.{Finishes, ends, sunk, Stores};
 ghost use Rattle.sym_top.specs.Jobs.{Job as Planned, Output as File};
 
-use crate::refusal::Refusal;
+use refusal_lines::Refusal;
 use scsi_words::Bytes;
 use std::marker::Model;
 use sym_io::{Shelf, ShelfFault, Sink, write_all};

@@ -1,8 +1,7 @@
-//! What holds of every command and its files.
+//! What holds of every command and its files. The function does nothing; its contract is the law.
 ghost use Rattle.sym_top.specs.Causes.{OneCause};
 
-/// Where the shelf tells its files, no two of these hold of a command: it has a job, its source has a first fault, a
-/// file is too long. There is at most one first fault.
+/// Where the shelf tells its files, a command has one end, but for want of memory: a job or a refusal, and one refusal.
 pub fn one_cause()
     ensures { OneCause }
 {}

@@ -2,11 +2,10 @@
 ghost use Rattle.std.specs.IoError.{error_kind};
 ghost use Rattle.std.specs.Prelude.{◌≡◌, ◌≢◌, IfOk, drop, map, string_bytes};
 ghost use Rattle.std.specs.Vec.Iter.{into_iter_items};
-ghost use Rattle.sym_top.specs.Refusals.{Says};
-ghost use Rattle.sym_top.specs.declared.refusal.Refusal.TheVariants.{OutOfMemory as NoMemory, Usage as NoCommand};
+ghost use Rattle.refusal_lines.specs.Refusals.{Says};
+ghost use Rattle.refusal_lines.specs.declared.refusal.Refusal.TheVariants.{OutOfMemory as NoMemory, Usage as NoCommand};
 
-use crate::exit::Exit;
-use crate::refusal::{Refusal, say};
+use refusal_lines::{Exit, Refusal, say};
 use scsi_words::Text;
 use std::alloc::{AllocError, Global};
 use std::env::Args;

@@ -1,4 +1,4 @@
-use Rattle.std.proofs.Common.{refl, inr}
+use Rattle.std.proofs.Common.{inr}
 use Rattle.sym_top.specs.Asked.{asked}
 use Rattle.sym_top.proofs.OneCommand.{refuses-answered}
 use Rattle.sym_top.proofs.answer.serve.Goals as goal

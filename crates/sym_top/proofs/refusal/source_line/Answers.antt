@@ -1,5 +1,0 @@
-use Rattle.std.proofs.Common.{append_assoc}
-use Rattle.sym_top.proofs.refusal.source_line.Goals as goal
-
-pub returns : goal.returns
-returns c = rw c.in_ok-text.ensures.ok (simp append_assoc)

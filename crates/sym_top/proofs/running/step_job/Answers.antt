@@ -1,0 +1,26 @@
+use Rattle.std.specs.Prelude.{Result}
+use Rattle.refusal_lines.specs.declared.refusal.Refusal.{Refusal}
+use Rattle.run_files.specs.Shelves.{shelved}
+use Rattle.sym_top.specs.CommandLine.{step}
+use Rattle.sym_top.specs.Jobs.{Job}
+use Rattle.sym_top.specs.Making.{Prepares}
+use Rattle.sym_top.proofs.Passing.{handed_on}
+use Rattle.sym_top.proofs.CommandStages.{step_work_refused, step_made}
+use Rattle.sym_top.proofs.running.step_job.Goals as goal
+
+pub returns-in_err-work : goal.returns-in_err-work
+returns-in_err-work g c =
+    let s = shelved (g.F.Shelf.files c.args.shelf.now) (g.F.Shelf.load_faults c.args.shelf.now) (g.F.Shelf.store_faults c.args.shelf.now) in
+    let m = shelved (g.F.Shelf.files c.load_rig.new.shelf) (g.F.Shelf.load_faults c.load_rig.new.shelf) (g.F.Shelf.store_faults c.load_rig.new.shelf) in
+    let t = shelved (g.F.Shelf.files c.load_work.new.shelf) (g.F.Shelf.load_faults c.load_work.new.shelf) (g.F.Shelf.store_faults c.load_work.new.shelf) in
+    let e = c.in_err-work.field-0.0 in
+    handed_on (λ (q : Result Job Refusal). Prepares (step c.args.rig.now c.args.work.now c.args.seed c.args.trace.now) s t q) c.from_residual-in_err-work.result e c.from_residual-in_err-work.ensures.1
+    (step_work_refused c.args.rig.now c.args.work.now c.args.seed c.args.trace.now c.in_ok-rig.rig s m t e c.in_ok-rig.ensures.0 c.in_ok-rig.ensures.1 c.in_err-work.ensures)
+
+pub returns : goal.returns
+returns g c =
+    let s = shelved (g.F.Shelf.files c.args.shelf.now) (g.F.Shelf.load_faults c.args.shelf.now) (g.F.Shelf.store_faults c.args.shelf.now) in
+    let m = shelved (g.F.Shelf.files c.load_rig.new.shelf) (g.F.Shelf.load_faults c.load_rig.new.shelf) (g.F.Shelf.store_faults c.load_rig.new.shelf) in
+    let t = shelved (g.F.Shelf.files c.load_work.new.shelf) (g.F.Shelf.load_faults c.load_work.new.shelf) (g.F.Shelf.store_faults c.load_work.new.shelf) in
+    step_made c.args.rig.now c.args.work.now c.args.seed c.args.trace.now c.in_ok-rig.rig c.in_ok-work.work s m t c.run_job.result c.in_ok-rig.ensures.0 c.in_ok-rig.ensures.1 c.in_ok-work.ensures.0
+    c.in_ok-work.ensures.1 c.run_job.ensures
