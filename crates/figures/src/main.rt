@@ -2,6 +2,7 @@
 #![tactic(auto)]
 
 mod buddy;
+mod desk;
 mod rig;
 mod text;
 mod trace;
@@ -19,9 +20,10 @@ fn main(rt: HostRuntime) -> io::Result<()> {
     };
     match word {
         "buddy" => buddy::buddy(&rt, count),
+        "desk" => desk::desk(&rt, count),
         "rig" => rig::rig(&rt, count),
         "header" => rig::rig_below_header(&rt, count),
         "trace" => trace::trace(&rt, count),
-        _ => println!(rt; "usage: figures buddy|rig|header|trace [N]"),
+        _ => println!(rt; "usage: figures buddy|desk|rig|header|trace [N]"),
     }
 }
