@@ -57,7 +57,8 @@ impl Stand {
             submitter: 0,
             number,
         };
-        let submitters = self.work.submitters.as_slice();
+        let work = &self.work;
+        let submitters = work.submitters.as_slice();
         assert!(rt; submitters.len() > 0);
         let commands = submitters[0].as_slice();
         assert!(rt; (number as usize) < commands.len());
