@@ -13,30 +13,60 @@ const RIG: &str =
 const WORK: &str =
     "version = 1\n[[submitter]]\ncommand = [{ unit = 0, cdb = \"28000000000000000100\", segments = [511], direction = \"in\" }, { unit = 0, cdb = \"280000000000\", segments = [512], direction = \"in\" }, { unit = 9, cdb = \"28000000000000000100\", segments = [512], direction = \"in\" }, { unit = 0, cdb = \"28000000000000000100\", segments = [512], direction = \"in\" }]\n";
 
+/// Why the first command is refused.
+const SHORT: Refused = Refused::BadRequest(Kind::TooShort {
+    need: 512,
+    has: 511,
+});
+
+/// A command, and why its ticket isn't built, None where it is.
+struct Row {
+    number: u32,
+    reason: Option<Refused>,
+}
+
+/// Commands in the order in which they are built.
+const ROWS: [Row; 7] = [
+    Row {
+        number: 0,
+        reason: Some(SHORT),
+    },
+    Row {
+        number: 1,
+        reason: Some(Refused::BadRequest(Kind::CdbLength)),
+    },
+    Row {
+        number: 2,
+        reason: Some(Refused::BadRequest(Kind::NoUnit)),
+    },
+    Row {
+        number: 3,
+        reason: None,
+    },
+    Row {
+        number: 3,
+        reason: None,
+    },
+    Row {
+        number: 3,
+        reason: Some(Refused::LunFull { depth: 2 }),
+    },
+    Row {
+        number: 0,
+        reason: Some(SHORT),
+    },
+];
+
 #[test]
 fn refusals(rt: HostRuntime) -> Result<(), Fail> {
     let mut stand = Stand::open(&rt, rt.alloc(), RIG, WORK)?;
-    let short = Kind::TooShort {
-        need: 512,
-        has: 511,
-    };
-    // Commands in the order in which they are built, each with its ticket or why it has none.
-    let rows = [
-        (0u32, Err(Refused::BadRequest(short))),
-        (1, Err(Refused::BadRequest(Kind::CdbLength))),
-        (2, Err(Refused::BadRequest(Kind::NoUnit))),
-        (3, Ok(0u32)),
-        (3, Ok(1)),
-        (3, Err(Refused::LunFull { depth: 2 })),
-        (0, Err(Refused::BadRequest(short))),
-    ];
-    for (number, want) in rows {
-        let found = match stand.build(&rt, number) {
-            Ok(t) => Ok(t),
-            Err(BuildFault::Refused(reason)) => Err(reason),
-            Err(BuildFault::OutOfMemory) => panic!(rt; "memory is wanting"),
-        };
-        assert_eq!(rt; found, want, "command {number}");
+    for row in &ROWS {
+        assert_eq!(rt;
+            stand.refused(&rt, row.number),
+            row.reason,
+            "command {}",
+            row.number
+        );
     }
     Ok(())
 }

@@ -4,7 +4,7 @@
 use bench_words::Words;
 use chip_regs::Regs;
 use cmd_block::{Field, write};
-use desk_law::{Stage, Taken};
+use desk_law::{Refused, Stage, Taken};
 use driver_desk::{BuildFault, Desk};
 use driver_script::load;
 use rig_reader::read_rig;
@@ -64,6 +64,15 @@ impl Stand {
         assert!(rt; (number as usize) < commands.len());
         let request = &commands[number as usize].request;
         self.desk.build(&mut self.words, line, request)
+    }
+
+    /// Builds the ticket of a command, and tells why it is refused, None where it is built.
+    pub fn refused(&mut self, rt: &impl Abort, number: u32) -> Option<Refused> {
+        match self.build(rt, number) {
+            Ok(_) => None,
+            Err(BuildFault::Refused(reason)) => Some(reason),
+            Err(BuildFault::OutOfMemory) => panic!(rt; "memory is wanting"),
+        }
     }
 
     /// Links a ticket.
