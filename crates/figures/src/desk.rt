@@ -21,7 +21,8 @@ const FEW: u32 = 100;
 const RIG: &[u8] = b"version = 2\n[[unit]]\ntarget = 0\nlun = 0\nblocks = 64\ndepth = 256\n";
 
 /// One READ(10) of a block.
-const WORK: &[u8] = b"version = 1\n[[submitter]]\n[[submitter.command]]\nunit = 0\ncdb = \"28000000000000000100\"\nsegments = [512]\ndirection = \"in\"\n";
+const WORK: &[u8] =
+    b"version = 1\n[[submitter]]\n[[submitter.command]]\nunit = 0\ncdb = \"28000000000000000100\"\nsegments = [512]\ndirection = \"in\"\n";
 
 /// How many tickets live while another goes from Build to Free.
 const LIVE: [u32; 3] = [0, 63, 255];
@@ -139,32 +140,44 @@ fn request_of(work: &Work) -> Option<&Request> {
 }
 
 /// Makes tickets while others live, and prints how long it took; no time where no number is given.
-fn part(
+fn timed(
     rt: &HostRuntime,
-    rig: &Rig,
-    work: &Work,
+    desk: &mut Desk,
+    words: &mut Words,
+    request: &Request,
     live: u32,
     count: Option<u32>,
-) -> io::Result<()> {
-    let alloc = rt.alloc();
-    let mut desk = Desk::open(alloc, rig, work)?;
-    let mut words = Words::new(alloc, 0x10_0000)?;
+) -> io::Result<()>
+    requires memory { length words.old ≡ 0x400000 }
+{
     let mut regs = Regs::new();
-    let Some(request) = request_of(work) else {
-        return println!(rt; "desk: no request");
-    };
-    if words.len() != 0x40_0000 || !keep(&mut desk, &mut words, request, live) {
+    if !keep(desk, words, request, live) {
         return println!(rt; "desk: {live} tickets can't live");
     }
     let times = count.unwrap_or(FEW);
     let start = rt.thread_cpu_time()?;
-    let all = cycles(&mut desk, &mut words, &mut regs, request, times);
+    let all = cycles(desk, words, &mut regs, request, times);
     let time = rt.thread_cpu_time()?.saturating_sub(start).as_millis();
-    let among = live + 1;
     if count.is_some() {
-        println!(rt; "desk: {times} tickets from build to free among {among}, all: {all}, in {time} ms of processor time")
+        println!(rt;
+            "desk: {times} tickets from build to free beside {live} others, all: {all}, in {time} ms of processor time"
+        )
     } else {
-        println!(rt; "desk: {times} tickets from build to free among {among}, all: {all}")
+        println!(rt; "desk: {times} tickets from build to free beside {live} others, all: {all}")
+    }
+}
+
+/// Opens a desk and memory, and makes tickets while so many others live.
+fn part(rt: &HostRuntime, rig: &Rig, work: &Work, live: u32, count: Option<u32>) -> io::Result<()> {
+    let Some(request) = request_of(work) else {
+        return println!(rt; "desk: no request");
+    };
+    let mut desk = Desk::open(rt.alloc(), rig, work)?;
+    let mut words = Words::new(rt.alloc(), 0x10_0000)?;
+    if words.len() == 0x40_0000 {
+        timed(rt, &mut desk, &mut words, request, live, count)
+    } else {
+        println!(rt; "desk: no memory")
     }
 }
 
