@@ -58,10 +58,10 @@ over-waits x i e = subst IsEndedOrUnlinked e i
 
 -- ---- words of a block as before
 
-remain-same : (m n : List ℕ) (b p : ℕ) → ((o : ℕ) → o + 4 ≤ 0x200 → word_at n (b + o) ≡ word_at m (b + o)) → remain (word_at n) b p ≡ remain (word_at m) b p
+pub remain-same : (m n : List ℕ) (b p : ℕ) → ((o : ℕ) → 0x20 ≤ o → o + 4 ≤ 0x200 → word_at n (b + o) ≡ word_at m (b + o)) → remain (word_at n) b p ≡ remain (word_at m) b p
 remain-same m n b p same =
-    remain-kept (word_at m) (word_at n) b p (record { count = λ j l. same (0x40 + 8 * j) (omega (arith, l)); address = λ j l. same (0x44 + 8 * j) (omega (arith, l)) })
-    (λ k x l e f. record { count = same (0xC0 + 0x10 * k) (omega (arith, l)); address = same (0xC4 + 0x10 * k) (omega (arith, l)); return = same (0xC8 + 0x10 * k) (omega (arith, l)) })
+    remain-kept (word_at m) (word_at n) b p (record { count = λ j l. same (0x40 + 8 * j) (omega arith) (omega (arith, l)); address = λ j l. same (0x44 + 8 * j) (omega arith) (omega (arith, l)) })
+    (λ k x l e f. record { count = same (0xC0 + 0x10 * k) (omega arith) (omega (arith, l)); address = same (0xC4 + 0x10 * k) (omega arith) (omega (arith, l)); return = same (0xC8 + 0x10 * k) (omega arith) (omega (arith, l)) })
 
 module _ (g : BenchSetting) (p : Plan) (ms : List Moment) (m : Moment) (ks : ℕ → Ticket) (spare : ℕ → ℕ) (setting : IsBenchSetting g) (bytes : HasBytes g) (r : IsRun g (opened g) ms) (steps : Steps g (last (opened g) ms) m) (j : IsJoined g p (last (opened g) ms) ks spare) where
   abbrev old : World
@@ -112,7 +112,7 @@ module _ (g : BenchSetting) (p : Plan) (ms : List Moment) (m : Moment) (ks : ℕ
     remain-is =
         ap (λ (a : ℕ). remain (word_at m.after.memory) a (field_of m.after.memory a Lastp)) kept.block
         ∙ ap (remain (word_at m.after.memory) b) (words 0x08 (omega arith))
-        ∙ remain-same old.memory m.after.memory b (field_of old.memory b Lastp) words
+        ∙ remain-same old.memory m.after.memory b (field_of old.memory b Lastp) (λ i low l. words i l)
 
     agrees-on : (k : Ticket) → KeepsReport o (ks t) k → ReportAgrees old.memory (ticket old.desk t) (ks t) o → ReportAgrees m.after.memory (ticket m.after.desk t) k o
     agrees-on k s a = record {

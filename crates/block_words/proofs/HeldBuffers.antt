@@ -50,7 +50,7 @@ use Rattle.block_words.proofs.WrittenMemory.{IsOpen, open-live, each-step-stays}
 
 -- ---- the addresses of a buffer, piece by piece
 
-abbrev ranges : List Piece → List ℕ
+abbrev pub ranges : List Piece → List ℕ
 ranges ps = flat_map (λ (p : Piece). range_with_len p.chunk.base p.len) ps
 
 module _ (p : Piece) (ps : List Piece) where
@@ -81,7 +81,7 @@ bytes-as m n a (suc k) e =
     ap (λ (x : ℕ). x ∷ bytes_at n (suc a) k) first ∙ ap (λ (xs : List ℕ). slice_index m a ∷ xs) rest
 
 -- a buffer is as before where each of its bytes is
-buffers-as : (m n : List ℕ) (ps : List Piece) → ((j : ℕ) → j < length (ranges ps) → slice_index n (slice_index (ranges ps) j) ≡ slice_index m (slice_index (ranges ps) j))
+pub buffers-as : (m n : List ℕ) (ps : List Piece) → ((j : ℕ) → j < length (ranges ps) → slice_index n (slice_index (ranges ps) j) ≡ slice_index m (slice_index (ranges ps) j))
     → flat_map (λ (p : Piece). bytes_at n p.chunk.base p.len) ps ≡ flat_map (λ (p : Piece). bytes_at m p.chunk.base p.len) ps
 buffers-as m n [] e = refl
 buffers-as m n (p ∷ ps) e =
@@ -92,7 +92,7 @@ buffers-as m n (p ∷ ps) e =
 
 -- ---- bytes that a write leaves
 
-word-beside : (m : List ℕ) (a x v : ℕ) → a + 4 ≤ x → slice_index (put_word m a v) x ≡ slice_index m x
+pub word-beside : (m : List ℕ) (a x v : ℕ) → a + 4 ≤ x → slice_index (put_word m a v) x ≡ slice_index m x
 unfolding put_word
 word-beside m a x v l = byte_outside m a x _ (inr (omega (arith, l)))
 

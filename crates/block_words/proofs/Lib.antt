@@ -12,3 +12,7 @@ mod EndedDesks
 mod EndedReports
 mod PlainSteps
 mod ReportedRuns
+mod SenseFlags
+mod OpenSenses
+mod Endings
+mod EndingSteps

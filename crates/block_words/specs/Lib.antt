@@ -5,3 +5,4 @@ pub mod LiveWords
 pub mod EndedWords
 pub mod EndedReports
 pub mod ReportedRuns
+pub mod EndingSteps

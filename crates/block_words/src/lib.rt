@@ -10,4 +10,6 @@ pub use laws::{
     commands_are_told, lives_of_rules, marks_agree, marks_are_told, state_and_status_tell,
     words_stay,
 };
-pub use reported_laws::{reported_runs_fit, reports_stay, runs_report};
+pub use reported_laws::{
+    reported_runs_fit, reports_stay, runs_report, sweeps_report, takes_report,
+};

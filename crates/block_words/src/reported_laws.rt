@@ -1,5 +1,6 @@
 //! Laws of the reports of a run. Each function does nothing; its contract is the law.
 
+ghost use Rattle.block_words.specs.EndingSteps.{SweepsReport, TakesReport};
 ghost use Rattle.block_words.specs.ReportedRuns.{ReportedRunsFit, ReportsStay, RunsReport};
 
 /// In a joined run what agrees with tickets that have their outcome, and that the reports made so far are those of the moves, goes on
@@ -17,4 +18,15 @@ pub fn reported_runs_fit()
 /// list of moves, and its reports are those of the moves.
 pub fn runs_report()
     ensures { RunsReport }
+{}
+
+/// Where STATE and STATUS agree with the life of the ticket that TakeDone takes, and its buffer, its LASTP and its sense area with the
+/// ticket (`EndAgrees`), the step is joined, and leaves all reported that was so.
+pub fn takes_report()
+    ensures { TakesReport }
+{}
+
+/// So is Sweep of a ticket that a reset took from the chip.
+pub fn sweeps_report()
+    ensures { SweepsReport }
 {}

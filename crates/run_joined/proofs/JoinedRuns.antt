@@ -35,7 +35,7 @@ use Rattle.run_joined.proofs.Plans.{plans-stay}
 use Rattle.run_joined.proofs.Matching.{none-noted}
 
 -- ---- lists of moves one behind the other
-appended : {p : Plan} {count : ℕ} {ks : ℕ → Ticket} {ts : ℕ → Target} {ms : ℕ → Ticket} {vs : ℕ → Target} {ns : ℕ → Ticket} {us : ℕ → Target} → Run p count ks ts ms vs → Run p count ms vs ns us → Run p count ks ts ns us
+pub appended : {p : Plan} {count : ℕ} {ks : ℕ → Ticket} {ts : ℕ → Target} {ms : ℕ → Ticket} {vs : ℕ → Target} {ns : ℕ → Ticket} {us : ℕ → Target} → Run p count ks ts ms vs → Run p count ms vs ns us → Run p count ks ts ns us
 appended r none = r
 appended r (more s m) = more (appended r s) m
 
@@ -44,6 +44,12 @@ appended-history : {p : Plan} {count : ℕ} {ks : ℕ → Ticket} {ts : ℕ → 
 unfolding appended
 appended-history x r none = refl
 appended-history x r (more s m) = ap (moved.noted x m) (appended-history x r s)
+
+pub appended-from : {p : Plan} {count : ℕ} {ks : ℕ → Ticket} {ts : ℕ → Target} {ms : ℕ → Ticket} {vs : ℕ → Target} {ns : ℕ → Ticket} {us : ℕ → Target} (x : ℕ) (h : TicketHistory) (r : Run p count ks ts ms vs) (s : Run p count ms vs ns us)
+    → history_on x (appended r s) h ≡ history_on x s (history_on x r h)
+unfolding appended
+appended-from x h r none = refl
+appended-from x h r (more s m) = ap (moved.noted x m) (appended-from x h r s)
 
 append-one : (ns : List Moment) (m : Moment) (ms : List Moment) → (ns ++ m ∷ []) ++ ms ≡ ns ++ m ∷ ms
 append-one [] m ms = refl

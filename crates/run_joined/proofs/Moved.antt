@@ -206,7 +206,7 @@ module _ (g : BenchSetting) (p : Plan) (old : World) (m : Moment) (ks : ℕ → 
         whole = j.tickets.whole;
       }
 
-  room-on : (ns : ℕ → Ticket) (a : Moves p count ks ts ns ts) → (IsBuild a → ⊥) → ((n : ℕ) → clears_in n a ≡ 0) → AreReserved p g.units built old.bus ns spare
+  pub room-on : (ns : ℕ → Ticket) (a : Moves p count ks ts ns ts) → (IsBuild a → ⊥) → ((n : ℕ) → clears_in n a ≡ 0) → AreReserved p g.units built old.bus ns spare
   room-on ns a not-build clears n less u there =
       let room = room_at (device_at old.bus (p.units n).target) (p.units n).lun in
       let z : HasSpare p n built ks u.log room (spare n + clears_in n a) = let s = j.reserved n less u there in omega (arith, s, clears n) in
@@ -296,6 +296,25 @@ module _ (g : BenchSetting) (p : Plan) (old : World) (m : Moment) (ks : ℕ → 
       let rig-is = as-made old.desk made new w rig in
       by-ticket t l (to-desk p t ks made.desk new.desk (ap (λ (x : World). x.desk) w) to) bus-is (ap (λ (x : World). length x.desk.tickets) w ∙ many) rig-is
       (quiet s e a b (ap targets bus-is) rig-is.units)
+
+  -- the same, with the tickets after it
+  pub one-ticket-to : (s : Step) → m.entry.step ≡ s → ((x : ℕ) → marks_by g x change s ≡ false) → resets_bus_by g change s ≡ false → (t : ℕ) → t < length old.desk.tickets → (made : World) → new ≡ made → (to : StepsTo p t ks made.desk)
+      → made.bus ≡ old.bus → length made.desk.tickets ≡ length old.desk.tickets → SameRig old.desk made.desk → (x : StepJoins g p old m ks) × (v : View) × (x.tickets ≡ with_at ks t (to.to v))
+  unfolding by-move joined-by
+  one-ticket-to s e a b t l made w to bus many rig =
+      let bus-is : new.bus ≡ old.bus = ap (λ (x : World). x.bus) w ∙ bus in
+      let rig-is = as-made old.desk made new w rig in
+      let silent = quiet s e a b (ap targets bus-is) rig-is.units in
+      let u = own-unit t in
+      let v = view_for p t u.0.log in
+      let ns = with_at ks t (to.to v) in
+      let one : Moves p count ks ts ns ts = move.alone t (to.to v) u.0 u.1 (to.step v) in
+      let none-new = not-new p old.desk ks j.desk t l in (
+        by-move ns one (λ z. absurd (none-new z)) none-new (λ n. refl) bus-is (ap (λ (x : World). length x.desk.tickets) w ∙ many) (subst (λ (d : DeskState). DeskJoined p d ns) (sym (ap (λ (x : World). x.desk) w)) (to.joined v)) rig-is
+            (λ y h. silent-change g (unit_of p y) y (record { before = old; moment = m }) h (silent y) ∙ sym (silent-move p count ks ts ns ts y one h (record { tally = refl; unmarked = refl; no_bus_reset = refl }))),
+        v,
+        refl,
+      )
 
   -- ---- a step that leaves tickets and bus
   pub still : (s : Step) → m.entry.step ≡ s → ((x : ℕ) → marks_by g x change s ≡ false) → resets_bus_by g change s ≡ false → new.bus ≡ old.bus → new.desk.tickets ≡ old.desk.tickets → SameRig old.desk new.desk → StepJoins g p old m ks
