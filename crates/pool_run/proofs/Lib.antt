@@ -1,0 +1,4 @@
+mod Openings
+mod LineByLine
+mod Endings
+mod Choosing
