@@ -1,0 +1,3 @@
+pub mod CalmSteps
+pub mod Attention
+pub mod AttentionSteps

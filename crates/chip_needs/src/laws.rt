@@ -1,0 +1,9 @@
+//! Laws of the calls that the chip makes. Each function does nothing; its contract is the law.
+
+ghost use Rattle.chip_needs.specs.Attention.{AttentionIsTold};
+
+/// In every world of every run in which the chip runs, ATN is asserted only behind a selection, up to the message, and behind SET ATN
+/// of an abort.
+pub fn attention_is_told()
+    ensures { AttentionIsTold }
+{}

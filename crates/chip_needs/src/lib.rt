@@ -1,0 +1,6 @@
+//! A step of the chip finds of tickets and targets what its calls of the bus ask: definitions, with their laws. Nothing here runs.
+#![tactic(auto)]
+
+mod laws;
+
+pub use laws::attention_is_told;
