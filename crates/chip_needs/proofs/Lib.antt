@@ -1,3 +1,4 @@
 pub mod CalmSteps
 pub mod Attention
 pub mod AttentionSteps
+pub mod ToldStatus

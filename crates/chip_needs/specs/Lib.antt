@@ -1,1 +1,2 @@
 pub mod Attention
+pub mod ToldStatus

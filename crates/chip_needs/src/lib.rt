@@ -3,4 +3,4 @@
 
 mod laws;
 
-pub use laws::attention_is_told;
+pub use laws::{attention_is_told, statuses_are_told};
