@@ -2,3 +2,5 @@ pub mod CalmSteps
 pub mod Attention
 pub mod AttentionSteps
 pub mod ToldStatus
+pub mod FreeCalls
+pub mod Ordinary

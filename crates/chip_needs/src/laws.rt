@@ -1,6 +1,7 @@
 //! Laws of the calls that the chip makes. Each function does nothing; its contract is the law.
 
 ghost use Rattle.chip_needs.specs.Attention.{AttentionIsTold};
+ghost use Rattle.chip_needs.specs.Ordinary.{AcksFind, OrdinaryStepsJoin, PointersStand};
 ghost use Rattle.chip_needs.specs.ToldStatus.{StatusesAreTold};
 
 /// In every world of every run in which the chip runs, ATN is asserted only behind a selection, up to the message, and behind SET ATN
@@ -12,4 +13,20 @@ pub fn attention_is_told()
 /// After every list of moves the ticket of a task that shows COMMAND COMPLETE has the status that was told.
 pub fn statuses_are_told()
     ensures { StatusesAreTold }
+{}
+
+/// Where both pointers of a ticket stand where its connected task does, an acknowledgement finds of the tickets what it asks.
+pub fn acks_find()
+    ensures { AcksFind }
+{}
+
+/// A joined run is joined with pointers that stand so: nothing else of the tickets changes, and no history.
+pub fn pointers_stand()
+    ensures { PointersStand }
+{}
+
+/// A step of the chip leaves a run joined that was so, but at the addresses at which a message, a command or a byte of DATA OUT goes to a
+/// target.
+pub fn ordinary_steps_join()
+    ensures { OrdinaryStepsJoin }
 {}

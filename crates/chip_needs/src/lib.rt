@@ -3,4 +3,6 @@
 
 mod laws;
 
-pub use laws::{attention_is_told, statuses_are_told};
+pub use laws::{
+    acks_find, attention_is_told, ordinary_steps_join, pointers_stand, statuses_are_told,
+};
