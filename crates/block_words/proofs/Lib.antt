@@ -1,18 +1,18 @@
-pub mod KeptWords
+mod KeptWords
 pub mod RunSteps
-pub mod Marks
-pub mod Turned
-pub mod Commands
-pub mod LiveWords
-pub mod WrittenMemory
-pub mod EndedBlocks
-pub mod HeldBuffers
-pub mod EndedTickets
-pub mod EndedDesks
-pub mod EndedReports
-pub mod PlainSteps
-pub mod ReportedRuns
-pub mod SenseFlags
-pub mod OpenSenses
-pub mod Endings
-pub mod EndingSteps
+mod Marks
+mod Turned
+mod Commands
+mod LiveWords
+mod WrittenMemory
+mod EndedBlocks
+mod HeldBuffers
+mod EndedTickets
+mod EndedDesks
+mod EndedReports
+mod PlainSteps
+mod ReportedRuns
+mod SenseFlags
+mod OpenSenses
+mod Endings
+mod EndingSteps

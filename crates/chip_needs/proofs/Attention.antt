@@ -1,20 +1,12 @@
 -- Where ATN is asserted: each step of a run keeps what is told of it.
-use Rattle.std.proofs.Common.{arith, ◌≡◌, ◌≢◌, ◌⊎◌, inl, inr, ℕ, zero, suc, ◌+◌, ◌-◌, ◌*◌, ◌%◌, ◌<◌, ◌≤◌, ◌==◌, ◌&&◌, ◌||◌, nat_eq, nat_le, Bool, true, false, List, [], ◌∷◌, ◌++◌, length, slice_index_or, MatchBool, Option, Some, None, refl, sym, ap, subst, ◌∙◌, lit<, length-append}
-use Rattle.std.specs.Prelude.{slice_get, if◌then◌else◌}
+use Rattle.std.proofs.Common.{arith, ◌≡◌, ◌⊎◌, inl, inr, ℕ, zero, suc, ◌+◌, ◌*◌, ◌%◌, ◌<◌, ◌≤◌, ◌||◌, nat_eq, nat_le, Bool, true, false, List, [], ◌∷◌, ◌++◌, length, slice_index_or, MatchBool, Option, Some, None, refl, sym, ap, subst, ◌∙◌, lit<, length-append}
 use Rattle.std.proofs.lemmas.Bool.{false≢true}
 use Rattle.std.proofs.lemmas.Bool.Decides.{nat_tests}
 use Rattle.bench_words.specs.Memory.{word_at}
 use Rattle.scsi_words.specs.Phases.{phase_code}
 use Rattle.scsi_words.specs.declared.phases.kinds.Phase.{Phase as BusPhase}
-use Rattle.rig_types.specs.declared.acts.Act.{Act}
-use Rattle.rig_types.specs.declared.acts.ActKind.{ActKind}
-use Rattle.rig_types.specs.declared.acts.ActKind.TheVariants.{Abort, Device, Bus}
-use Rattle.rig_types.specs.declared.commands.Command.{Command}
 use Rattle.rig_types.specs.declared.rig.Unit.{Unit as RigUnit}
-use Rattle.rig_types.specs.declared.step.Line.{Line}
-use Rattle.rig_types.specs.declared.step.Step.{Step}
-use Rattle.rig_types.specs.declared.step.Step.TheVariants as step
-use Rattle.host_map.specs.declared.TheConstants.{CHAINS, MSGIN, FRONT_IDLE}
+use Rattle.host_map.specs.declared.TheConstants.{CHAINS, MSGIN}
 use Rattle.host_map.specs.Places.{target_chain, unit_chain}
 use Rattle.scripts_ops.specs.declared.values.Op.{Op}
 use Rattle.scripts_ops.specs.declared.values.Op.TheVariants as op
@@ -27,47 +19,36 @@ use Rattle.driver_script.proofs.ScriptTests.{all_below, both_versions}
 use Rattle.rig_chains.specs.Chains.{jump_if, identify_ops, target_ops, lun_ops, lun_jumps, unit_ops}
 use Rattle.chip_regs.specs.declared.registers.Regs.{Regs}
 use Rattle.chip_regs.specs.declared.registers.Cause.{Cause}
-use Rattle.chip_regs.specs.declared.registers.Cause.TheVariants.{Sir, Iid, Bf, Ma, Udc, Rst, Sto}
+use Rattle.chip_regs.specs.declared.registers.Cause.TheVariants.{Iid, Bf, Ma, Udc}
 use Rattle.chip_rows.proofs.RelatedBuses.{steps_show}
 use Rattle.chip_step.specs.Event as event
 use Rattle.chip_step.specs.Event.{Event}
 use Rattle.chip_step.specs.Chip.{Chip, Stops}
-use Rattle.chip_step.specs.Addresses.{place_of}
 use Rattle.chip_step.specs.Blocks.{loaded, Moves as BytesMove, MovesAt, BlockMoves, MovesBy}
-use Rattle.chip_step.specs.Connection.{with_table, SettlesAs, SelectsBy, Selects}
-use Rattle.chip_step.specs.Instructions.{Does}
+use Rattle.chip_step.specs.Connection.{with_table, SettlesAs, SelectsBy}
 use Rattle.chip_step.specs.Step as chip_step
 use Rattle.chip_step.specs.Step.{ChipStep, IsAt, third_at, after_fetch}
 use Rattle.chip_step.specs.declared.scsi_bus.Settled.{Settled}
 use Rattle.chip_step.specs.declared.scsi_bus.Settled.TheVariants.{Selected, Reselected, TimedOut as NobodyAnswers}
 use Rattle.chip_step.specs.declared.outcome.StepEnd.{StepEnd}
-use Rattle.chip_step.specs.declared.outcome.StepEnd.TheVariants.{Ran, Idle, Stopped}
+use Rattle.chip_step.specs.declared.outcome.StepEnd.TheVariants.{Ran, Stopped}
 use Rattle.chip_step.proofs.Made.{one_spelling}
 use Rattle.target_law.specs.declared.nexus.Nexus.{Nexus}
 use Rattle.target_law.specs.Devices.{DeviceState}
-use Rattle.target_law.specs.Calls.{is_free, link_phase, link_takes}
-use Rattle.bus_law.specs.Attention.{messaged, after_atn, acked, after_ack, is_message_out}
-use Rattle.bus_law.specs.Bus.{BusState, free_if, with_device, becomes, link_on}
+use Rattle.target_law.specs.Calls.{is_free}
+use Rattle.bus_law.specs.Attention.{acked, after_ack}
+use Rattle.bus_law.specs.Bus.{BusState, free_if, with_device, becomes}
 use Rattle.bus_law.specs.Bytes.{after_byte_in, after_byte_out}
 use Rattle.bus_law.specs.Choices.{after_turn}
 use Rattle.bus_law.specs.Moves.{moves}
 use Rattle.bus_law.specs.Reselections.{Candidate, candidate_named, can_select, after_reselection, after_selection}
 use Rattle.ownership.proofs.Steps.{stands_at}
-use Rattle.phase_fix.specs.declared.moves.DataMove.{DataMove}
-use Rattle.phase_fix.specs.declared.moves.DataPhase.{DataPhase}
-use Rattle.phase_fix.specs.declared.moves.DataPhase.TheVariants.{In, Out}
-use Rattle.phase_fix.specs.declared.moves.Entry.{Entry}
-use Rattle.phase_fix.specs.declared.moves.Entry.TheVariants.{Segment, Context}
-use Rattle.phase_fix.specs.Moves.{context_label}
-use Rattle.world_law.specs.ChipSteps.{chip_of, after_chip, stop_for, stop_after, RunsChip}
-use Rattle.world_law.specs.World.{BenchSetting, IsBenchSetting, World, live}
+use Rattle.world_law.specs.ChipSteps.{chip_of, RunsChip}
+use Rattle.world_law.specs.World.{World, live}
 use Rattle.world_law.specs.declared.reply.Reply.{Reply}
-use Rattle.world_law.specs.declared.reply.Stop.{Stop}
-use Rattle.world_law.specs.declared.reply.Stop.TheVariants as stop
 use Rattle.word_owners.specs.Holds.{Holds, Running}
 use Rattle.word_owners.specs.Parts.{Counts}
 use Rattle.word_owners.specs.Points.{Point, about, At2B8, AtUnit, BehindUnit, InLuns, InTargets}
-use Rattle.word_owners.specs.Pointers.{move_place}
 use Rattle.word_owners.specs.Tickets.{tickets_of}
 use Rattle.word_owners.proofs.ChainOps.{jumps, stops, target-op, lun-op}
 use Rattle.word_owners.proofs.ChainSteps.{IsAtChain, stands-here, in-targets, in-luns, jump-two}

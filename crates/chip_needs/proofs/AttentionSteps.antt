@@ -1,6 +1,6 @@
 -- In every world of a run in which the chip runs, ATN is asserted only where a message is to go out.
-use Rattle.std.proofs.Common.{arith, ◌≡◌, ◌≢◌, ◌⊎◌, inl, inr, ℕ, ℤ, pos, ◌+◌, ◌-◌, ◌*◌, ◌<◌, ◌≤◌, ◌==◌, ◌||◌, nat_eq, nat_le, Bool, true, false, List, [], ◌∷◌, ◌++◌, Option, Some, None, refl, sym, ap, subst, ◌∙◌}
-use Rattle.std.specs.Prelude.{◌&&◌, slice_get, if◌then◌else◌}
+use Rattle.std.proofs.Common.{arith, ◌≡◌, ◌≢◌, inl, inr, ℕ, pos, ◌+◌, ◌-◌, ◌*◌, ◌<◌, ◌≤◌, ◌==◌, ◌||◌, nat_eq, Bool, true, false, List, Option, Some, None, refl, sym, ap, subst, ◌∙◌}
+use Rattle.std.specs.Prelude.{slice_get, if◌then◌else◌}
 use Rattle.std.proofs.lemmas.Bool.{false≢true}
 use Rattle.std.proofs.lemmas.Bool.Decides.{nat_tests}
 use Rattle.rig_types.specs.declared.acts.Act.{Act}
@@ -12,7 +12,6 @@ use Rattle.rig_types.specs.declared.step.Line.{Line}
 use Rattle.rig_types.specs.declared.step.Step.{Step}
 use Rattle.rig_types.specs.declared.step.Step.TheVariants as step
 use Rattle.host_map.specs.declared.TheConstants.{FRONT_IDLE}
-use Rattle.scripts_ops.specs.declared.values.Op.{Op}
 use Rattle.scripts_ops.specs.declared.values.Op.TheVariants as op
 use Rattle.driver_script.specs.Script.{instruction}
 use Rattle.chip_regs.specs.declared.registers.Cause.{Cause}
@@ -21,7 +20,6 @@ use Rattle.chip_step.specs.Addresses.{place_of}
 use Rattle.chip_step.specs.Blocks.{loaded}
 use Rattle.chip_step.specs.Step.{after_fetch}
 use Rattle.chip_step.specs.declared.outcome.StepEnd.{StepEnd}
-use Rattle.chip_step.specs.declared.outcome.StepEnd.TheVariants.{Ran, Idle, Stopped}
 use Rattle.desk_law.specs.declared.refused.Refused.{Refused}
 use Rattle.desk_law.specs.Desk.{ticket}
 use Rattle.desk_law.specs.Rings.{done_ticket}
@@ -39,7 +37,7 @@ use Rattle.world_law.specs.ChipSteps.{chip_of, stop_for, stop_after, RunsChip}
 use Rattle.world_law.specs.Enabling.{Enabled}
 use Rattle.world_law.specs.Opening.{opened}
 use Rattle.world_law.specs.Repairs.{Fixes}
-use Rattle.world_law.specs.Runs.{Moment, Steps, IsRun, last}
+use Rattle.world_law.specs.Runs.{Moment, IsRun, last}
 use Rattle.world_law.specs.Steps.{Does, TakesOf}
 use Rattle.world_law.specs.World.{BenchSetting, IsBenchSetting, World, command_at, decided, front, live}
 use Rattle.world_law.specs.declared.reply.Decided.{Decided}
@@ -50,9 +48,9 @@ use Rattle.world_law.specs.declared.reply.Stop.{Stop}
 use Rattle.world_law.specs.declared.reply.Stop.TheVariants as stop
 use Rattle.world_law.proofs.RunLaws.{ends_after}
 use Rattle.word_owners.specs.Holds.{Spot, Holds, Running, Mismatched, NotData, Fixed, TimedOut, JobOver, ResetAt, Broken}
-use Rattle.word_owners.specs.Nexts.{IsNext, Leads}
+use Rattle.word_owners.specs.Nexts.{IsNext}
 use Rattle.word_owners.specs.Parts.{Counts}
-use Rattle.word_owners.specs.Points.{Point, about, At000, At050, At060, At068, At070, At078, At080, At088, At278, At280, At288, At290, At298, At2A0, At2A8, At440, At448, At450, At458, BehindContext, LeavesContext, Moves, InTargets, InLuns, AtUnit, BehindUnit}
+use Rattle.word_owners.specs.Points.{Point, about, At050, At060, At068, At070, At078, At080, At088, At278, At280, At288, At290, At298, At2A0, At2A8, At440, At448, At450, At458, BehindContext, LeavesContext, Moves, InTargets, InLuns, AtUnit, BehindUnit}
 use Rattle.word_owners.specs.Pointers.{move_place}
 use Rattle.word_owners.specs.Worlds.{HasBytes}
 use Rattle.word_owners.proofs.AllSteps.{chip_steps_hold}

@@ -1,5 +1,5 @@
 -- Which calls an instruction makes: none but SELECT and SET asserts ATN.
-use Rattle.std.proofs.Common.{◌≡◌, ℕ, zero, suc, ◌+◌, ◌%◌, Bool, true, false, ◌&&◌, nat_eq, nat_le, Option, Some, None, List, length, slice_index, slice_set, MatchBool, inl, inr}
+use Rattle.std.proofs.Common.{ℕ, zero, suc, ◌+◌, ◌%◌, Bool, true, false, ◌&&◌, nat_eq, nat_le, Option, Some, None, List, length, slice_index, slice_set, MatchBool, inl, inr}
 use Rattle.scsi_words.specs.Phases.{phase_code}
 use Rattle.bench_words.specs.Memory.{word_at}
 use Rattle.scsi_words.specs.declared.phases.kinds.Phase.{Phase}
@@ -13,7 +13,7 @@ use Rattle.chip_step.specs.Event.{Event}
 use Rattle.chip_step.specs.Chip.{Chip}
 use Rattle.chip_step.specs.Addresses.{place_of}
 use Rattle.chip_step.specs.Bytes.{Acked, TakesIn, GoesOut}
-use Rattle.chip_step.specs.Blocks.{loaded, after_bytes, ReleasesAtn, Carries, Finishes, Moves, Asks, MovesAt, AsksAndMoves, BlockMoves, MovesBy}
+use Rattle.chip_step.specs.Blocks.{loaded, after_bytes, ReleasesAtn, Carries, Finishes, Moves, Asks, MovesAt, BlockMoves, MovesBy}
 use Rattle.chip_step.specs.Connection.{ReleasesAck, Reselects}
 use Rattle.chip_step.specs.Transfers.{Decides, Transfers}
 use Rattle.chip_step.specs.Instructions.{Does}
@@ -59,7 +59,8 @@ module _ {B : Type 0} (moves : B → Event → B → Type 0) (word : ℕ) (A : E
   takes : (message later : Bool) (n : ℕ) (memory : List ℕ) (at : ℕ) (bus : B) (left : ℕ) (memory' : List ℕ) (bus' : B) → TakesIn moves message later n memory at bus left memory' bus' → TakesIn such message later n memory at bus left memory' bus'
   takes message later zero memory at bus left memory' bus' h = h
   takes message later (suc n) memory at bus left memory' bus' h = (
-    h.0, acked (message && later) bus h.0 h.1,
+    h.0,
+    acked (message && later) bus h.0 h.1,
     elim h.2 [
       | inl e ↦ inl (record { call = (e.call, a.byte_in None); all_left = e.all_left; same = e.same })
       | inr x ↦ inr (x.0, x.1, (x.2, a.byte_in (Some x.0)), takes message true n (slice_set memory at x.0) (at + 1) x.1 left memory' bus' x.3)

@@ -1,5 +1,5 @@
 -- Instructions that send nothing to a target, beside the tickets: each call finds what it asks, where the first acknowledgement does.
-use Rattle.std.proofs.Common.{◌≡◌, ℕ, zero, suc, ◌+◌, ◌%◌, Bool, true, false, ◌&&◌, nat_eq, nat_le, Option, Some, None, List, length, slice_index, slice_set, MatchBool, inl, inr, refl, sym, ap, subst, ◌∙◌, arith}
+use Rattle.std.proofs.Common.{◌≡◌, ℕ, zero, suc, ◌+◌, ◌%◌, Bool, true, false, ◌&&◌, nat_eq, nat_le, Option, Some, None, List, length, slice_set, MatchBool, inl, inr, refl, sym, ap, subst, ◌∙◌, arith}
 use Rattle.std.proofs.lemmas.Bool.{false≢true}
 use Rattle.std.proofs.lemmas.Bool.Decides.{nat_tests}
 use Rattle.scsi_words.specs.Phases.{phase_code}
@@ -14,15 +14,14 @@ use Rattle.chip_regs.specs.declared.registers.Regs.{Regs}
 use Rattle.chip_regs.specs.declared.registers.Cause.{Cause}
 use Rattle.chip_step.specs.Event as event
 use Rattle.chip_step.specs.Event.{Event}
-use Rattle.chip_step.specs.Chip.{Chip, Ends, Becomes, Stops, state}
+use Rattle.chip_step.specs.Chip.{Chip, Ends, Becomes, Stops}
 use Rattle.chip_step.specs.Addresses.{place_of, address_of, low_bits}
-use Rattle.chip_step.specs.Bytes.{Acked, TakesIn}
-use Rattle.chip_step.specs.Blocks.{loaded, after_bytes, ReleasesAtn, Finishes, Moves, Asks, MovesAt, AsksAndMoves, BlockMoves, MovesBy}
+use Rattle.chip_step.specs.Bytes.{TakesIn}
+use Rattle.chip_step.specs.Blocks.{loaded, after_bytes, ReleasesAtn, Finishes, Moves, Asks, MovesAt, BlockMoves, MovesBy}
 use Rattle.chip_step.specs.Connection.{with_table, WaitsAt, ReselectsBy, SettlesAs, SelectsBy, Reselects}
 use Rattle.chip_step.specs.Transfers.{TransfersAt, Decides, Transfers}
 use Rattle.chip_step.specs.Memory.{LoadsAt, StoresAt}
 use Rattle.chip_step.specs.Instructions.{Does}
-use Rattle.chip_step.specs.Step.{after_fetch}
 use Rattle.chip_step.specs.declared.scsi_bus.Settled.{Settled}
 use Rattle.chip_step.specs.declared.scsi_bus.Settled.TheVariants.{Selected, Reselected, TimedOut}
 use Rattle.chip_step.specs.declared.outcome.StepEnd.{StepEnd}
@@ -70,15 +69,15 @@ not-six ph e = by (nat_eq ph 6) refl
     by true q = (let z : ph ≡ 6 = grind (arith, nat_tests) in let y : ph % 2 ≡ 1 = grind (arith, nat_tests) in absurd (omega (arith, z, y)))
     by false q = q
 
-choose : {A : Type 0} {R : A → Type 0} (P Q : A → Type 0) (b : Bool) {X Y : Type 0} → (X → (v : A) × P v × R v) → (Y → (v : A) × Q v × R v) → MatchBool b X Y → (v : A) × MatchBool b (P v) (Q v) × R v
+pub choose : {A : Type 0} {R : A → Type 0} (P Q : A → Type 0) (b : Bool) {X Y : Type 0} → (X → (v : A) × P v × R v) → (Y → (v : A) × Q v × R v) → MatchBool b X Y → (v : A) × MatchBool b (P v) (Q v) × R v
 choose P Q true f g h = f h
 choose P Q false f g h = g h
 
 module _ (p : Plan) (units : List RigUnit) (live_at : ℕ → Nexus → Option ℕ) (caused : ℕ → Bool) (word : ℕ) where
-  abbrev M : BusState → Event → BusState → Type 0
+  abbrev pub M : BusState → Event → BusState → Type 0
   M = moves units live_at
 
-  abbrev S : TicketBus → Event → TicketBus → Type 0
+  abbrev pub S : TicketBus → Event → TicketBus → Type 0
   S = Calls p units live_at caused
 
   abbrev pub after : TicketBus → Event → BusState → TicketBus
@@ -94,7 +93,7 @@ module _ (p : Plan) (units : List RigUnit) (live_at : ℕ → Nexus → Option �
   }
 
   -- the states of the bus with tickets that stand over one of the bus
-  abbrev Then : (TicketBus → Type 0) → BusState → Type 0
+  abbrev pub Then : (TicketBus → Type 0) → BusState → Type 0
   Then P y = (v : TicketBus) × P v × (v.bus ≡ y)
 
   -- a call that asks nothing
@@ -160,7 +159,7 @@ module _ (p : Plan) (units : List RigUnit) (live_at : ℕ → Nexus → Option �
   becomes : (regs : Regs) (old : Chip BusState) (end : StepEnd) (new : Chip BusState) (u : TicketBus) → u.bus ≡ old.bus → Becomes regs old end new → Then (λ v. Becomes regs (over u old) end (over v new)) new.bus
   becomes regs old end new u r h = (u, record { ends = ends _ _ _ end new u h.ends; bus_is = refl }, r ∙ sym h.bus_is)
 
-  stops : (cause : Cause) (old : Chip BusState) (end : StepEnd) (new : Chip BusState) (u : TicketBus) → u.bus ≡ old.bus → Stops cause old end new → Then (λ v. Stops cause (over u old) end (over v new)) new.bus
+  pub stops : (cause : Cause) (old : Chip BusState) (end : StepEnd) (new : Chip BusState) (u : TicketBus) → u.bus ≡ old.bus → Stops cause old end new → Then (λ v. Stops cause (over u old) end (over v new)) new.bus
   stops cause old end new u r h = (u, record { ends = ends _ _ _ end new u h.ends; bus_is = refl }, r ∙ sym h.bus_is)
 
   -- ---- bytes from the target: no message byte is acknowledged before another

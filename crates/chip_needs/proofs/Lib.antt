@@ -4,3 +4,5 @@ pub mod AttentionSteps
 pub mod ToldStatus
 pub mod FreeCalls
 pub mod Ordinary
+pub mod SentCalls
+pub mod Sending

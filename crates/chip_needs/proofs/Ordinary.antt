@@ -1,5 +1,5 @@
 -- A step of the chip at an address at which nothing goes to a target leaves a run joined.
-use Rattle.std.proofs.Common.{arith, ◌≡◌, ◌≢◌, ◌⊎◌, inl, inr, ℕ, ℤ, pos, zero, suc, ◌+◌, ◌-◌, ◌*◌, ◌%◌, ◌<◌, ◌≤◌, ◌==◌, ◌&&◌, ◌||◌, nat_eq, nat_le, Bool, true, false, List, [], ◌∷◌, ◌++◌, length, slice_index_or, Option, Some, None, refl, sym, ap, subst, ◌∙◌, lit<, length-append}
+use Rattle.std.proofs.Common.{arith, ◌≡◌, ◌≢◌, inl, inr, ℕ, zero, suc, ◌+◌, ◌*◌, ◌%◌, ◌<◌, ◌≤◌, ◌&&◌, ◌||◌, nat_eq, Bool, true, false, List, [], ◌∷◌, ◌++◌, length, slice_index_or, Option, Some, None, refl, sym, ap, subst, ◌∙◌, lit<, length-append}
 use Rattle.std.specs.Prelude.{not}
 use Rattle.std.proofs.lemmas.Option.{same_Some}
 use Rattle.std.proofs.lemmas.Bool.{false≢true}
@@ -21,10 +21,8 @@ use Rattle.driver_script.specs.Script.{instruction}
 use Rattle.driver_script.specs.declared.script.TheConstants.{SCRIPT}
 use Rattle.driver_script.proofs.ScriptTests.{all_below, both_versions}
 use Rattle.rig_chains.specs.Chains.{jump_if, identify_ops, target_ops, lun_ops, lun_jumps, unit_ops}
-use Rattle.unit_law.specs.Log.{View, with_at, tally}
-use Rattle.unit_law.specs.Report.{TicketHistory}
-use Rattle.unit_law.proofs.Views.{with_at-same, with_at-other, same_or_not}
-use Rattle.scsi_words.specs.Statuses.{status_code}
+use Rattle.unit_law.specs.Log.{with_at}
+use Rattle.unit_law.proofs.Views.{with_at-same, same_or_not}
 use Rattle.chip_step.specs.Chip.{Chip, state}
 use Rattle.chip_step.specs.Event.{Event}
 use Rattle.chip_step.specs.Instructions.{Does as Row}
@@ -33,34 +31,29 @@ use Rattle.chip_rows.specs.Following.{over}
 use Rattle.chip_step.specs.Step as chip_step
 use Rattle.chip_step.specs.Step.{ChipStep, IsAt, can_fetch, third_at, after_fetch}
 use Rattle.chip_step.proofs.Made.{one_spelling}
-use Rattle.target_law.specs.declared.nexus.Nexus.{Nexus}
 use Rattle.target_law.specs.declared.task_phase.Completion.{Completion}
 use Rattle.target_law.specs.declared.task_phase.Completion.TheVariants.{Answered, Refused}
-use Rattle.target_law.specs.declared.task_phase.TargetMessage.{TargetMessage}
 use Rattle.target_law.specs.declared.task_phase.TargetMessage.TheVariants.{Reselection, CommandComplete, SaveThenDisconnect, SaveDataPointer, RestorePointers, Disconnect}
 use Rattle.target_law.specs.declared.task_phase.TaskPhase.{TaskPhase}
 use Rattle.target_law.specs.declared.task_phase.TaskPhase.TheVariants.{ToChoose, MessageOut, DataIn, DataOut, Status, MessageIn}
 use Rattle.target_law.specs.Bytes.{Connection}
-use Rattle.target_law.specs.Calls.{is_free}
 use Rattle.target_law.specs.Devices.{room_at}
-use Rattle.target_law.specs.Target.{LogicalUnit, ConnectionState, BusFree, TaskConnected, Target}
+use Rattle.target_law.specs.Target.{ConnectionState, BusFree, TaskConnected, Target}
 use Rattle.bus_law.specs.Bus.{BusState, device_at}
 use Rattle.bus_law.specs.Moves.{moves}
 use Rattle.ownership.proofs.Steps.{stands_at}
 use Rattle.ticket_fate.specs.Histories as moved
 use Rattle.ticket_fate.specs.Kept.{AllKept}
 use Rattle.ticket_fate.specs.Laws.{Reached}
-use Rattle.ticket_fate.specs.Linked.{IsPlan, WorkKept, LinkKept, NoteOfSense, ShownBySense}
+use Rattle.ticket_fate.specs.Linked.{WorkKept, LinkKept, ShownBySense}
 use Rattle.ticket_fate.specs.Moves as move
 use Rattle.ticket_fate.specs.Moves.{Moves as TicketMoves, target_of, pointed_ticket}
-use Rattle.ticket_fate.specs.Tickets.{Plan, unit_of, Connected, Ticket}
+use Rattle.ticket_fate.specs.Tickets.{Plan, Connected, Ticket}
 use Rattle.ticket_fate.proofs.Reached.{all-kept}
 use Rattle.ticket_link.proofs.Tags.{apart-kept}
 use Rattle.ticket_room.proofs.Moves.{logs-stay-within}
-use Rattle.bus_events.specs.BusResets.{history_on}
-use Rattle.bus_events.specs.Needs.{NeedsVerdict, NeedsHeard, NeedsShown, NeedsAck}
+use Rattle.bus_events.specs.Needs.{NeedsVerdict, NeedsShown, NeedsAck}
 use Rattle.bus_events.specs.Targets.{targets}
-use Rattle.bus_events.specs.TicketLaws.{AreJoined}
 use Rattle.bus_events.proofs.BusResets.{nothing-noted}
 use Rattle.bus_events.proofs.TicketCalls.{free-is}
 use Rattle.world_law.specs.ChipSteps.{chip_of, RunsChip}
@@ -71,12 +64,9 @@ use Rattle.world_law.specs.Steps.{Does}
 use Rattle.world_law.specs.World.{BenchSetting, IsBenchSetting, World, live}
 use Rattle.world_law.specs.declared.reply.Reply.{Reply}
 use Rattle.world_law.specs.declared.reply.Stop.TheVariants as stop
-use Rattle.world_law.proofs.RunLaws.{ends_after}
-use Rattle.run_law.specs.History.{history, noted}
-use Rattle.run_law.proofs.Longer.{notes_on}
 use Rattle.word_owners.specs.Holds.{Holds, Running}
 use Rattle.word_owners.specs.Parts.{Counts}
-use Rattle.word_owners.specs.Points.{Point, about, At2B8, AtUnit, BehindUnit, InLuns, InTargets}
+use Rattle.word_owners.specs.Points.{Point, about, AtUnit, BehindUnit, InLuns, InTargets}
 use Rattle.word_owners.specs.Tickets.{tickets_of}
 use Rattle.word_owners.specs.Worlds.{HasBytes}
 use Rattle.word_owners.proofs.ChainOps.{jumps, stops, target-op, lun-op}
@@ -87,7 +77,6 @@ use Rattle.word_owners.proofs.RunningChip.{running}
 use Rattle.word_owners.proofs.Standing.{script, at-over, in-chain, is_chain, stands-at}
 use Rattle.word_owners.proofs.Worlds.{words_are_owned}
 use Rattle.run_joined.specs.ChipCalls.{TicketBus, Calls, none, ChipMoves, caused_by}
-use Rattle.run_joined.specs.Joined.{IsJoined, no_tickets, StepJoins}
 use Rattle.run_joined.specs.JoinedRuns.{RunJoins, IsJoinedRun}
 use Rattle.run_joined.proofs.ChipCalls.{chip-steps-join}
 use Rattle.run_joined.proofs.ChipSteps.{chip-leaves-desk}
@@ -189,10 +178,12 @@ module _ (g : BenchSetting) (p : Plan) (ms : List Moment) (ks : ℕ → Ticket) 
       by false s =
           let x = c.task.ticket in
           let work : WorkKept false p i ks (targets w.bus i) c = subst (λ (b : Bool). WorkKept b p i ks (targets w.bus i) c) s (subst (λ (l : ConnectionState). LinkKept l p i ks (targets w.bus i)) e (kept.each i).link) in
-          let k = pointed_ticket (ks x) c.task.position c.task.saved in
-          (with_at ks x k, written x c.task.position c.task.saved work.life,
+          let k = pointed_ticket (ks x) c.task.position c.task.saved in (
+            with_at ks x k,
+            written x c.task.position c.task.saved work.life,
             idle-else i f (with_at ks x k) (subst (IsPointed (with_at ks x k)) (sym e)
-            (subst (λ (b : Bool). PointsBy b (with_at ks x k x) c) (sym s) (subst (λ (z : Ticket). PointsBy false z c) (sym (with_at-same ks x k)) (refl, refl)))))
+                (subst (λ (b : Bool). PointsBy b (with_at ks x k x) c) (sym s) (subst (λ (z : Ticket). PointsBy false z c) (sym (with_at-same ks x k)) (refl, refl)))),
+          )
   at-link i f l e = (ks, j, idle-else i f ks (subst (IsPointed ks) (sym e) tt))
 
   all-links : (o : Option ℕ) → w.bus.connected ≡ o → (ns : ℕ → Ticket) × RunJoins g p ms ns × ArePointed ns w.bus
@@ -205,7 +196,7 @@ pointers-stand g p ms ks j = all-links g p ms ks j (last (opened g) ms).bus.conn
 
 -- ---- which instruction stands at an address
 module _ (P : Op → Type 0) (version : ℕ) (units : List RigUnit) (c : Counts) (w new : World) (word : ℕ) (answer : Reply) (run : RunsChip w word answer new) (x : Op) (at : IsAt (chip_of w) x) (jumps-so : 0x8000 ≤ w.regs.dsp → (value address : ℕ) → P (jump_if value address)) (identifies : 0x8000 ≤ w.regs.dsp → P (op.Move 1 MSGIN 7))
-    (others-so : (n : Op) → IsPlain n → (Asking n → ⊥) → P n) where
+    (others-so : 0x8000 ≤ w.regs.dsp → (n : Op) → IsPlain n → (Asking n → ⊥) → P n) where
   abbrev us : List RigUnit
   us = (tickets_of w.desk).units
 
@@ -217,30 +208,30 @@ module _ (P : Op → Type 0) (version : ℕ) (units : List RigUnit) (c : Counts)
 
   lun-so : (r i : ℕ) → 0x8000 ≤ w.regs.dsp → Holds version units (Running (InLuns r i)) c w → P x
   lun-so r zero far h = chain-so (InLuns r 0) h (target_chain r) (lun_ops us r) 0 (op.Move 1 MSGIN 7) (in-luns version units c w new word answer run r 0 h (op.Move 1 MSGIN 7) refl refl) (identifies far)
-  lun-so r (suc zero) far h = chain-so (InLuns r 1) h (target_chain r) (lun_ops us r) 1 (op.Int (Byte true 0x7F 0x80) 8) (in-luns version units c w new word answer run r 1 h (op.Int (Byte true 0x7F 0x80) 8) refl refl) (others-so _ tt (λ z. z))
-  lun-so r (suc (suc zero)) far h = chain-so (InLuns r 2) h (target_chain r) (lun_ops us r) 2 (op.ToSfbr 0x08 And 0x07) (in-luns version units c w new word answer run r 2 h (op.ToSfbr 0x08 And 0x07) refl refl) (others-so _ tt (λ z. z))
+  lun-so r (suc zero) far h = chain-so (InLuns r 1) h (target_chain r) (lun_ops us r) 1 (op.Int (Byte true 0x7F 0x80) 8) (in-luns version units c w new word answer run r 1 h (op.Int (Byte true 0x7F 0x80) 8) refl refl) (others-so far _ tt (λ z. z))
+  lun-so r (suc (suc zero)) far h = chain-so (InLuns r 2) h (target_chain r) (lun_ops us r) 2 (op.ToSfbr 0x08 And 0x07) (in-luns version units c w new word answer run r 2 h (op.ToSfbr 0x08 And 0x07) refl refl) (others-so far _ tt (λ z. z))
   lun-so r (suc (suc (suc i))) far h =
       let j = suc (suc (suc i)) in
       let n : length (lun_ops us r) ≡ 3 + length (lun_jumps us r ++ op.Int Always 9 ∷ []) = length-append identify_ops (lun_jumps us r ++ op.Int Always 9 ∷ []) in
       elim (lun-op us r i (omega (arith, n, h.works.extra.2))) [
         | jumps y more ↦ chain-so (InLuns r j) h (target_chain r) (lun_ops us r) j (jump_if y.lun (unit_chain y.unit)) (in-luns version units c w new word answer run r j h (jump_if y.lun (unit_chain y.unit)) y.is (jump-two y.lun (unit_chain y.unit) y.small)) (jumps-so far y.lun (unit_chain y.unit))
-        | stops e ↦ chain-so (InLuns r j) h (target_chain r) (lun_ops us r) j (op.Int Always 9) (in-luns version units c w new word answer run r j h (op.Int Always 9) e refl) (others-so _ tt (λ z. z))
+        | stops e ↦ chain-so (InLuns r j) h (target_chain r) (lun_ops us r) j (op.Int Always 9) (in-luns version units c w new word answer run r j h (op.Int Always 9) e refl) (others-so far _ tt (λ z. z))
       ]
 
   chains-so : (p : Point) → is_chain p ≡ true → 0x8000 ≤ w.regs.dsp → Holds version units (Running p) c w → P x
   chains-so (InTargets r j) e far h = elim (target-op us j h.works.extra.1) [
     | jumps y more ↦ chain-so (InTargets r j) h CHAINS (target_ops us) j (jump_if y.target (target_chain y.target)) (in-targets version units c w new word answer run r j h (jump_if y.target (target_chain y.target)) y.is (jump-two y.target (target_chain y.target) y.below)) (jumps-so far y.target (target_chain y.target))
-    | stops f ↦ chain-so (InTargets r j) h CHAINS (target_ops us) j (op.Int Always 0x0A) (in-targets version units c w new word answer run r j h (op.Int Always 0x0A) f refl) (others-so _ tt (λ z. z))
+    | stops f ↦ chain-so (InTargets r j) h CHAINS (target_ops us) j (op.Int Always 0x0A) (in-targets version units c w new word answer run r j h (op.Int Always 0x0A) f refl) (others-so far _ tt (λ z. z))
   ]
   chains-so (InLuns r j) e far h = lun-so r j far h
   chains-so (AtUnit u r) e far h =
       let f : length us ≤ 16 = few version units (Running (AtUnit u r)) c w 0 h in
       let i : IsAtChain (AtUnit u r) (unit_chain u) (unit_ops u) 0 (op.Load 0x10 4 (At (unit_chain u + 0x10))) w = record { spells = h.parts.chains.units_laid u h.works.extra.0; inside = lit< tt; is = refl; place = omega arith; aligned = omega arith; from = omega arith; below = omega (arith, f, h.works.extra.0); two = refl } in
-      chain-so (AtUnit u r) h (unit_chain u) (unit_ops u) 0 (op.Load 0x10 4 (At (unit_chain u + 0x10))) i (others-so _ tt (λ z. z))
+      chain-so (AtUnit u r) h (unit_chain u) (unit_ops u) 0 (op.Load 0x10 4 (At (unit_chain u + 0x10))) i (others-so far _ tt (λ z. z))
   chains-so (BehindUnit u r) e far h =
       let f : length us ≤ 16 = few version units (Running (BehindUnit u r)) c w 0 h in
       let i : IsAtChain (BehindUnit u r) (unit_chain u) (unit_ops u) 1 (op.Jump Always 0x160) w = record { spells = h.parts.chains.units_laid u h.works.extra.0; inside = lit< tt; is = refl; place = refl; aligned = omega arith; from = omega arith; below = omega (arith, f, h.works.extra.0); two = refl } in
-      chain-so (BehindUnit u r) h (unit_chain u) (unit_ops u) 1 (op.Jump Always 0x160) i (others-so _ tt (λ z. z))
+      chain-so (BehindUnit u r) h (unit_chain u) (unit_ops u) 1 (op.Jump Always 0x160) i (others-so far _ tt (λ z. z))
   chains-so _ e far h = absurd cc
 
   -- in the script, by the number of the instruction; the chains lie above it
@@ -394,7 +385,7 @@ module _ (g : BenchSetting) (setting : IsBenchSetting g) (bytes : HasBytes g) (p
       instruction-so (IsOrdinary old.regs.dsp) g.version g.units own.counts old m.after word m.reply run x at
       (λ far value address. (tt, λ z. absurd z))
       (λ far. ((refl, (refl, refl)), λ z. chain-quiet old.regs.dsp far))
-      (λ n plain none. (plain, λ z. absurd (none z)))
+      (λ far n plain none. (plain, λ z. absurd (none z)))
       k.0 k.1
       (λ i l place.
       let dsp : old.regs.dsp ≡ 8 * i = k.1.stays.3 ∙ place in
@@ -416,20 +407,25 @@ module _ (g : BenchSetting) (setting : IsBenchSetting g) (bytes : HasBytes g) (p
   chip-moves f =
       let v = f.over_bus in
       let there : ChipStep found word (over before (chip_of old)) run.end (state run.chip.memory run.chip.regs (record { bus = run.chip.bus; tickets = v.tickets; spare = v.spare })) =
-      subst (λ (b : BusState). ChipStep found word (over before (chip_of old)) run.end (state run.chip.memory run.chip.regs (record { bus = b; tickets = v.tickets; spare = v.spare }))) f.same_bus f.steps in
-      (v.tickets, v.spare, record {
-        ran = run;
-        called = v.tickets;
-        calls = subst (λ (n : World). ChipStep found word (over before (chip_of old)) run.end (state n.memory n.regs (record { bus = n.bus; tickets = v.tickets; spare = v.spare }))) (sym run.world) there;
-        own = none;
-      })
+      subst (λ (b : BusState). ChipStep found word (over before (chip_of old)) run.end (state run.chip.memory run.chip.regs (record { bus = b; tickets = v.tickets; spare = v.spare }))) f.same_bus f.steps in (
+        v.tickets,
+        v.spare,
+        record {
+          ran = run;
+          called = v.tickets;
+          calls = subst (λ (n : World). ChipStep found word (over before (chip_of old)) run.end (state n.memory n.regs (record { bus = n.bus; tickets = v.tickets; spare = v.spare }))) (sym run.world) there;
+          own = none;
+        },
+      )
+
+  -- so the run goes on joined
+  pub goes-on : Found → IsJoinedRun g p (ms ++ m ∷ [])
+  goes-on f =
+      let c = chip-moves f in
+      let x = chip-steps-join g p old m ks c.0 j.spare c.1 word s e c.2 j.joined in
+      (x.0.tickets, joined-on g p ms m ks j x.0)
 
 pub ordinary-steps-join : OrdinaryStepsJoin
 ordinary-steps-join g setting bytes p ms m word r s e out (ks, j) =
     let z = pointers-stand g p ms ks j in
-    let ns = z.0 in
-    let k = z.1 in
-    let f = found-by g setting bytes p ms m word r s e ns k z.2 out (run g setting bytes p ms m word r s e ns k z.2).ran in
-    let c = chip-moves g setting bytes p ms m word r s e ns k z.2 f in
-    let x = chip-steps-join g p (last (opened g) ms) m ns c.0 k.spare c.1 word s e c.2 k.joined in
-    (x.0.tickets, joined-on g p ms m ns k x.0)
+    goes-on g setting bytes p ms m word r s e z.0 z.1 z.2 (found-by g setting bytes p ms m word r s e z.0 z.1 z.2 out (run g setting bytes p ms m word r s e z.0 z.1 z.2).ran)

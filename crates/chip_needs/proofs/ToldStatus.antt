@@ -1,5 +1,5 @@
 -- Each move keeps the status that was told.
-use Rattle.std.proofs.Common.{◌≡◌, ◌≢◌, ◌⊎◌, inl, inr, ℕ, zero, suc, ◌<◌, Bool, true, false, List, [], nat_eq, nat_lt, Option, Some, None, refl, sym, ap, subst, ◌∙◌}
+use Rattle.std.proofs.Common.{◌≡◌, ◌≢◌, ◌⊎◌, inl, inr, ℕ, zero, suc, Bool, true, false, [], nat_eq, nat_lt, Option, Some, refl, sym, ap, subst, ◌∙◌}
 use Rattle.std.specs.Prelude.{if◌then◌else◌, ◌||◌}
 use Rattle.std.proofs.lemmas.Option.{same_Some}
 use Rattle.scsi_words.specs.declared.phases.kinds.Direction.{Direction}
@@ -25,15 +25,14 @@ use Rattle.target_law.specs.Bytes.{Connection, byte_by, sent_by, took_by, heard_
 use Rattle.target_law.specs.Calls.{target_acted, acted_by, task_reselected, begun, has_tag, has_ended}
 use Rattle.target_law.specs.Session.{Task, Session, acted, gone, phased, remaining, began}
 use Rattle.target_law.specs.Target.{LogicalUnit, ConnectionState, BusFree, TaskConnected, Target, unit_at, session, linked, on_unit, goes_on, target_reset}
-use Rattle.ticket_fate.specs.Tickets.{Plan, unit_of, Life, Connected, Ticket, ticket_sent, ticket_asked, view_for}
+use Rattle.ticket_fate.specs.Tickets.{Plan, Connected, Ticket, ticket_sent, ticket_asked, view_for}
 use Rattle.ticket_fate.specs.Linked.{IsPlan, WorkKept, LinkKept, ResetCause, ByBus, reset_ticket, log_of}
 use Rattle.ticket_fate.specs.Moves as move
 use Rattle.ticket_fate.specs.Moves.{CompletesTicket, IsIdle, parts_ticket, pointed_ticket, marked_ticket, target_of, TicketMove, Moves, alone, points, marks, relinks, acts, sends, receives, hears, listens, leaves_bus, completes, drops_task, reselects, begins, ask_sends, ask_completes, ask_begins, resets_idle, resets_work, resets_asking}
 use Rattle.ticket_fate.specs.Histories.{Run, none, more}
 use Rattle.ticket_fate.specs.Kept.{AllKept}
-use Rattle.ticket_fate.specs.Laws.{Reached}
 use Rattle.ticket_fate.proofs.Reached.{opens-kept, kept-by}
-use Rattle.chip_needs.specs.ToldStatus.{ToldWith, ToldIn, ToldBy, IsTold, StatusesAreTold}
+use Rattle.chip_needs.specs.ToldStatus.{ToldIn, ToldBy, IsTold, StatusesAreTold}
 
 -- ---- what is shown
 told-by : (b : Bool) (shows : TaskPhase) (status : ℕ) → ToldIn shows status → ToldBy b shows status

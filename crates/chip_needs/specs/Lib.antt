@@ -1,3 +1,4 @@
 pub mod Attention
 pub mod ToldStatus
 pub mod Ordinary
+pub mod Sending

@@ -10,7 +10,6 @@ use Rattle.bus_events.specs.Needs.{NeedsAck}
 use Rattle.bus_events.specs.Targets.{targets}
 use Rattle.bus_events.specs.TicketLaws.{AreJoined}
 use Rattle.rig_types.specs.declared.rig.Unit.{Unit as RigUnit}
-use Rattle.ticket_fate.specs.Linked.{IsPlan}
 use Rattle.ticket_fate.specs.Tickets.{Plan, Ticket}
 use Rattle.world_law.specs.Opening.{opened}
 use Rattle.world_law.specs.Runs.{Moment, Steps, IsRun, last}

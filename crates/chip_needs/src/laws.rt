@@ -2,6 +2,7 @@
 
 ghost use Rattle.chip_needs.specs.Attention.{AttentionIsTold};
 ghost use Rattle.chip_needs.specs.Ordinary.{AcksFind, OrdinaryStepsJoin, PointersStand};
+ghost use Rattle.chip_needs.specs.Sending.{RogueStepsJoin};
 ghost use Rattle.chip_needs.specs.ToldStatus.{StatusesAreTold};
 
 /// In every world of every run in which the chip runs, ATN is asserted only behind a selection, up to the message, and behind SET ATN
@@ -29,4 +30,9 @@ pub fn pointers_stand()
 /// target.
 pub fn ordinary_steps_join()
     ensures { OrdinaryStepsJoin }
+{}
+
+/// So does a step at any address while no target is connected that keeps the rules.
+pub fn rogue_steps_join()
+    ensures { RogueStepsJoin }
 {}
