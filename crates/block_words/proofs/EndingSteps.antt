@@ -1,5 +1,5 @@
 -- TakeDone and Sweep leave reported what was so, where memory agrees with the ticket that they take.
-use Rattle.std.proofs.Common.{arith, ◌≡◌, ◌⊎◌, inl, inr, ℕ, ◌+◌, ◌<◌, ◌≤◌, Bool, true, false, List, [], ◌∷◌, ◌++◌, length, slice_index, Option, Some, refl, sym, ap, subst, ◌∙◌}
+use Rattle.std.proofs.Common.{arith, ◌≡◌, ◌⊎◌, inl, inr, ℕ, ◌+◌, ◌-◌, ◌<◌, ◌≤◌, Bool, true, false, List, [], ◌∷◌, ◌++◌, length, drop, slice_index, Option, Some, refl, sym, ap, subst, ◌∙◌}
 use Rattle.std.specs.Prelude.{◌&&◌, not, flat_map, if◌then◌else◌}
 use Rattle.std.proofs.lemmas.Bool.{false≢true}
 use Rattle.std.proofs.lemmas.List.{get_or-set_same, length-set}
@@ -24,12 +24,12 @@ use Rattle.desk_law.specs.declared.ticket.Piece.{Piece}
 use Rattle.desk_law.specs.declared.stage.Stage.{Stage}
 use Rattle.desk_law.specs.declared.stage.Stage.TheVariants as stage
 use Rattle.desk_law.specs.declared.ticket.Ticket.{Ticket as DeskTicket}
-use Rattle.desk_law.specs.Blocks.{buffer}
+use Rattle.desk_law.specs.Blocks.{own, buffer}
 use Rattle.desk_law.specs.Desk.{ticket, no_ticket, is_sensing, is_rogue, lives}
 use Rattle.desk_law.specs.Taking.{taken, taken_by, is_again, is_check as is_to_check, state_of, status_byte}
 use Rattle.ticket_fate.specs.Fates.{FitsInCheck, Fate}
-use Rattle.ticket_fate.specs.Moves.{TicketMove, target_of}
-use Rattle.ticket_fate.specs.Tickets.{Plan, unit_of, Life, Unbuilt, Lost, Rejected, Finished, AskLost, Asked, AtRogue, Freed, is_live, Ticket, report_of, view_for}
+use Rattle.ticket_fate.specs.Moves.{TicketMove, Moves, target_of}
+use Rattle.ticket_fate.specs.Tickets.{Plan, unit_of, Life, Unbuilt, Lost, Rejected, Finished, AskLost, Asked, AtRogue, Freed, is_live, Ticket, report_of, freed_report, rogue_ticket, view_for}
 use Rattle.ticket_fate.proofs.Reached.{all-kept}
 use Rattle.ticket_fate.proofs.TicketSteps.{fate_at}
 use Rattle.bus_events.specs.Targets.{targets}
@@ -42,26 +42,40 @@ use Rattle.world_law.specs.World.{BenchSetting, IsBenchSetting, World}
 use Rattle.world_law.proofs.RunLaws.{goes_on, ends_after}
 use Rattle.world_law.proofs.TicketsKept.{keeps_tickets}
 use Rattle.word_owners.specs.BenchSteps.{IsOwned}
-use Rattle.word_owners.specs.Tickets.{tickets_of, is_check, IsTurned, IsLive}
+use Rattle.word_owners.specs.Tickets.{tickets_of, is_check, goal, IsTurned, IsLive}
 use Rattle.word_owners.specs.Worlds.{HasBytes}
 use Rattle.word_owners.proofs.Frames.{same_or}
 use Rattle.word_owners.proofs.Worlds.{words_are_owned}
 use Rattle.run_joined.specs.BlockWords.{StateAgrees, StatusAgrees}
-use Rattle.run_joined.specs.DeskLives.{IsStage, IsLostToReset, WordsAgree}
+use Rattle.run_joined.specs.DeskLives.{IsStage, IsKept, DeskJoined, IsLostToReset, WordsAgree}
 use Rattle.run_joined.specs.Joined.{StepJoins}
 use Rattle.run_joined.specs.JoinedRuns.{RunJoins}
 use Rattle.run_joined.specs.Plans.{IsPlanOf}
 use Rattle.run_joined.specs.Reports.{ReportAgrees}
 use Rattle.run_joined.proofs.DoneSteps.{done-steps-move}
-use Rattle.run_joined.proofs.Moved.{one-ticket-to, lives-so}
+use Rattle.run_joined.proofs.Moved.{one-ticket-to, lives-so, own-unit, not-new, moved-on, room-on}
+use Rattle.run_joined.proofs.JoinedRuns.{joined-on}
+use Rattle.run_joined.proofs.Matching.{silent-move}
 use Rattle.run_joined.proofs.Rigs.{same-rig}
+use Rattle.rig_types.specs.declared.report.Report.{Report}
+use Rattle.std.proofs.lemmas.List.{ext_get_or, get_or-drop, length-drop}
+use Rattle.cmd_block.specs.Block.{field_of}
+use Rattle.cmd_block.specs.declared.Field.TheVariants.{Lastp}
+use Rattle.phase_fix.specs.Remain.{remain}
+use Rattle.sense_job.specs.Turning.{sense_area}
+use Rattle.target_law.specs.Target.{LogicalUnit, unit_at}
+use Rattle.ticket_fate.specs.Histories as histories
+use Rattle.ticket_fate.specs.Histories.{more}
+use Rattle.ticket_fate.specs.Moves as move
+use Rattle.word_owners.specs.Pointers.{IsSuffix}
+use Rattle.word_owners.proofs.Buffers.{pointers_stay}
 use Rattle.block_words.specs.EndedReports.{HasOutcome}
 use Rattle.block_words.specs.EndedWords.{IsEndedOrUnlinked}
 use Rattle.block_words.specs.EndingSteps.{EndAgrees, TakesReport, SweepsReport}
 use Rattle.block_words.specs.LiveWords.{IsOfRules}
-use Rattle.block_words.specs.ReportedRuns.{AreReported}
+use Rattle.block_words.specs.ReportedRuns.{IsMade, AreReported, IsReportedRun}
 use Rattle.block_words.proofs.EndedReports.{outcome-over}
-use Rattle.block_words.proofs.Endings.{end-of, IsEnding, was_asked, has_sense, IsTold, end-agrees}
+use Rattle.block_words.proofs.Endings.{end-of, IsEnding, was_asked, has_sense, IsTold, FullAgrees, end-agrees}
 use Rattle.block_words.proofs.HeldBuffers.{ranges, buffers-as, word-beside}
 use Rattle.block_words.proofs.LiveWords.{lives-of-rules, state-and-status-tell}
 use Rattle.block_words.proofs.OpenSenses.{IsOpenLife, none-sensed}
@@ -124,6 +138,11 @@ module _ (x : DeskTicket) (off : (s : Stage) → x.stage ≡ s → (s ≡ stage.
   sensing-by AtRogue i n (inl e) = ap is_sensing e
   sensing-by AtRogue i n (inr e) = ap is_sensing e
   sensing-by l i n e = absurd i
+
+-- a suffix is what is left behind its place
+suffix-drop-is : (ys xs : List ℕ) (s : IsSuffix ys xs) → ys ≡ drop s.from xs
+suffix-drop-is ys xs s =
+    ext_get_or 0 ys (drop s.from xs) (let e : length (drop s.from xs) ≡ length xs - s.from = length-drop s.from xs in omega (arith, e, s.within)) (λ i l. s.at i l ∙ sym (get_or-drop s.from xs i 0))
 
 if-sensed : (b s : Bool) → s ≡ false → (if b then true else s) ≡ b
 if-sensed true s e = refl
@@ -239,7 +258,7 @@ module _ (g : BenchSetting) (p : Plan) (ms : List Moment) (m : Moment) (ks : ℕ
   -- ---- the step, joined with the ticket's move
 
   module _ (n : List ℕ) (memory : m.after.memory ≡ n) (words : (i : ℕ) → i + 4 ≤ 0x200 → IsTold i → word_at n (x.block + i) ≡ word_at old.memory (x.block + i)) (buffers : buffer n x ≡ buffer old.memory x) (s : StepJoins g p old m ks) (j2 : Ticket) (v : View) (moved : TicketMove p t v k j2)
-      (after : s.tickets ≡ with_at ks t j2) (flags : IsEndedOrUnlinked y.stage → (b : Life) → k.life ≡ b → IsEnding b → (y.checked ≡ x.checked) × (y.sensed ≡ has_sense b)) (status : StatusAgrees k.life (status_byte old.memory x) k.status) (ends : EndAgrees k.life old.memory x k) where
+      (after : s.tickets ≡ with_at ks t j2) (flags : IsEndedOrUnlinked y.stage → (b : Life) → k.life ≡ b → IsEnding b → (y.checked ≡ x.checked) × (y.sensed ≡ has_sense b)) (status : StatusAgrees k.life (status_byte old.memory x) k.status) (ends : FullAgrees k.life old.memory x k) where
     bytes-n : IsBytes n
     bytes-n = subst IsBytes memory owned-after.holds.bytes
 
@@ -264,8 +283,11 @@ module _ (g : BenchSetting) (p : Plan) (ms : List Moment) (m : Moment) (ks : ℕ
           | inr z ↦ absurd (none o (subst (λ (f : Ticket). HasOutcome o f.life) (ap (λ (f : ℕ → Ticket). f u) after ∙ with_at-other ks t j2 u z) e))
         ]) a
 
+  run-on : (s : StepJoins g p old m ks) → AreReported p m.after s.tickets → IsReportedRun g p (ms ++ m ∷ [])
+  run-on s b = (s.tickets, joined-on g p ms m ks j s, subst (λ (w : World). AreReported p w s.tickets) (sym (ends_after (opened g) ms m)) b)
+
   -- TakeDone
-  module _ (e : m.entry.step ≡ step.TakeDone) (d : m.after ≡ taken_world old t) (words : WordsAgree p old.desk old.memory t x k k.life) (state : StateAgrees k.life (state_of old.memory x)) (status : StatusAgrees k.life (status_byte old.memory x) k.status) (ends : EndAgrees k.life old.memory x k)
+  module _ (e : m.entry.step ≡ step.TakeDone) (d : m.after ≡ taken_world old t) (words : WordsAgree p old.desk old.memory t x k k.life) (state : StateAgrees k.life (state_of old.memory x)) (status : StatusAgrees k.life (status_byte old.memory x) k.status) (ends : FullAgrees k.life old.memory x k)
       (alive : IsLive x.stage) where
     low : old.desk.take + 4 ≤ 0x10000
     low = omega (arith, is_owned.holds.take)
@@ -279,18 +301,17 @@ module _ (g : BenchSetting) (p : Plan) (ms : List Moment) (m : Moment) (ks : ℕ
           ap (λ (z : DeskTicket). z.sensed) now ∙ f.1 ∙ if-sensed (is_sensing x.stage) x.sensed (was-unsensed b q i) ∙ sensing-by x checked-off checked-on unsensed-at b i not-lost (stage-is b q),
         )
 
-    takes : (s : StepJoins g p old m ks) × AreReported p m.after s.tickets
+    takes : IsReportedRun g p (ms ++ m ∷ [])
     takes =
         let to = done-steps-move.taken p old.desk ks old.memory t j.joined.desk l words in
-        let one = one-ticket-to g p old m ks j.spare j.joined step.TakeDone e (λ z. refl) refl t l (taken_world old t) d to refl (length-set old.desk.tickets t _) (same-rig refl refl refl refl) in (
-          one.0,
-          reported (put_word old.memory old.desk.take IDLE) (ap (λ (w : World). w.memory) d)
-              (λ i fits told. let q = (place alive).from in word_apart old.memory old.desk.take (x.block + i) IDLE (inr (omega (arith, low, q)))) (buffer-low alive old.memory old.desk.take IDLE (omega (arith, low)) refl) one.0 (to.to one.1) one.1
-              (to.step one.1) one.2 flags-taken status ends,
-        )
+        let one = one-ticket-to g p old m ks j.spare j.joined step.TakeDone e (λ z. refl) refl t l (taken_world old t) d to refl (length-set old.desk.tickets t _) (same-rig refl refl refl refl) in
+        run-on one.0
+        (reported (put_word old.memory old.desk.take IDLE) (ap (λ (w : World). w.memory) d)
+        (λ i fits told. let q = (place alive).from in word_apart old.memory old.desk.take (x.block + i) IDLE (inr (omega (arith, low, q)))) (buffer-low alive old.memory old.desk.take IDLE (omega (arith, low)) refl) one.0 (to.to one.1) one.1
+        (to.step one.1) one.2 flags-taken status ends)
 
   -- Sweep
-  module _ (e : m.entry.step ≡ step.Sweep t) (d : m.after ≡ sweeps old t) (lost : IsLostToReset k.life (is_sensing x.stage) (is_rogue old.desk x)) (ends : EndAgrees k.life old.memory x k) (alive : IsLive x.stage) where
+  module _ (e : m.entry.step ≡ step.Sweep t) (d : m.after ≡ sweeps old t) (lost : IsLostToReset k.life (is_sensing x.stage) (is_rogue old.desk x)) (ends : FullAgrees k.life old.memory x k) (alive : IsLive x.stage) where
     status-free : (b : Life) → IsLostToReset b (is_sensing x.stage) (is_rogue old.desk x) → StatusAgrees b (status_byte old.memory x) k.status
     status-free Lost w = tt
     status-free AskLost w = tt
@@ -315,17 +336,92 @@ module _ (g : BenchSetting) (p : Plan) (ms : List Moment) (m : Moment) (ks : ℕ
     beside i (inr (inl q)) = (inr (omega (arith, q.0)), inl (omega (arith, q.1)))
     beside i (inr (inr q)) = (inr (omega (arith, q)), inr (omega (arith, q)))
 
-    swept : (s : StepJoins g p old m ks) × AreReported p m.after s.tickets
+    swept : IsReportedRun g p (ms ++ m ∷ [])
     swept =
         let to = done-steps-move.swept p old.desk ks t j.joined.desk l lost in
         let one = one-ticket-to g p old m ks j.spare j.joined (step.Sweep t) e (λ z. refl) refl t l (sweeps old t) d to refl (length-set old.desk.tickets t _) (same-rig refl refl refl refl) in
         let first = put_word old.memory (x.block + 0x10) 4 in
-        let q = (place alive).below in (
-          one.0,
-          reported (put_word first (x.block + 0x1C) 0x1C0) (ap (λ (w : World). w.memory) d)
-              (λ i fits told. word_apart first (x.block + 0x1C) (x.block + i) 0x1C0 (beside i told).1 ∙ word_apart old.memory (x.block + 0x10) (x.block + i) 4 (beside i told).0)
-              (buffer-low alive first (x.block + 0x1C) 0x1C0 (omega (arith, q)) (buffer-low alive old.memory (x.block + 0x10) 4 (omega (arith, q)) refl)) one.0 (to.to one.1) one.1 (to.step one.1) one.2 flags-swept (status-free k.life lost) ends,
-        )
+        let q = (place alive).below in
+        run-on one.0
+        (reported (put_word first (x.block + 0x1C) 0x1C0) (ap (λ (w : World). w.memory) d)
+        (λ i fits told. word_apart first (x.block + 0x1C) (x.block + i) 0x1C0 (beside i told).1 ∙ word_apart old.memory (x.block + 0x10) (x.block + i) 4 (beside i told).0)
+        (buffer-low alive first (x.block + 0x1C) 0x1C0 (omega (arith, q)) (buffer-low alive old.memory (x.block + 0x10) 4 (omega (arith, q)) refl)) one.0 (to.to one.1) one.1 (to.step one.1) one.2 flags-swept (status-free k.life lost) ends)
+
+  -- ---- a ticket of a unit that breaks the rules becomes what memory says
+
+  module _ (life : k.life ≡ AtRogue) (alive : IsLive x.stage) where
+    goal-own : goal ((tickets_of old.desk).fixed t) ≡ own x
+    goal-own = ap (λ (b : Bool). if b && not (is_check x.stage) then sense_area x.block else own x) (was-checked AtRogue life tt)
+
+    suffix : IsSuffix (remain (word_at old.memory) x.block (field_of old.memory x.block Lastp)) (own x)
+    suffix =
+        subst (λ (xs : List ℕ). IsSuffix (remain (word_at old.memory) x.block (field_of old.memory x.block Lastp)) xs) goal-own (pointers_stay g.version g.units is_owned.spot is_owned.counts old t is_owned.holds alive).last
+
+    abbrev k1 : Ticket
+    k1 = rogue_ticket k (status_byte old.memory x) suffix.from k.savep k.tries (buffer old.memory x) k.area
+
+    abbrev ks1 : ℕ → Ticket
+    ks1 = with_at ks t k1
+
+    unit-here : (u : LogicalUnit) × (unit_at (targets old.bus (target_of p t)).units (p.units (unit_of p t)).lun ≡ Some u)
+    unit-here = own-unit g p old m ks j.spare j.joined t
+
+    makes : Moves p (length g.units) ks (targets old.bus) ks1 (targets old.bus)
+    makes = move.alone t k1 unit-here.0 unit-here.1 (move.rogue_moves (status_byte old.memory x) suffix.from k.savep k.tries (buffer old.memory x) k.area life)
+
+    desk1 : DeskJoined p old.desk ks1
+    desk1 = record {
+      unbuilt = λ u q. ap (λ (z : Ticket). z.life) (with_at-other ks t k1 u (λ z. absurd (omega (arith, z, q, l)))) ∙ j.joined.desk.unbuilt u q;
+      each = λ u q. elim (same_or u t) [
+        | inl z ↦ subst (λ (i : ℕ). IsKept p i (ticket old.desk i) (ks1 i)) (sym z) (subst (IsKept p t x) (sym (with_at-same ks t k1)) same-kept)
+        | inr z ↦ subst (IsKept p u (ticket old.desk u)) (sym (with_at-other ks t k1 u z)) (j.joined.desk.each u q)
+      ];
+    }
+      where
+        same-kept : IsKept p t x k1
+        same-kept = let h = j.joined.desk.each t l in record { stage_is = h.stage_is; tag_is = h.tag_is; unit_is = h.unit_is; tries_are = h.tries_are; outcome_is = h.outcome_is; counted_is = h.counted_is }
+
+    joins1 : RunJoins g p ms ks1
+    unfolding makes
+    joins1 =
+        let none-new = not-new p old.desk ks j.joined.desk t l in
+        record {
+          spare = j.spare;
+          opens = j.opens;
+          moves = more j.moves makes;
+          joined = record {
+            tickets = moved-on g p old m ks j.spare j.joined ks1 makes (λ z. absurd (none-new z));
+            desk = desk1;
+            rig = j.joined.rig;
+            places = j.joined.places;
+            reserved = room-on g p old m ks j.spare j.joined ks1 makes none-new (λ n. refl);
+            most = j.joined.most;
+          };
+          histories = λ u. j.histories u ∙ sym (silent-move p (length g.units) ks (targets old.bus) ks1 (targets old.bus) u makes (histories.history u j.moves) (record { tally = refl; unmarked = refl; no_bus_reset = refl }));
+        }
+
+    life1 : (ks1 t).life ≡ AtRogue
+    life1 = ap (λ (z : Ticket). z.life) (with_at-same ks t k1) ∙ life
+
+    reported1 : AreReported p old ks1
+    reported1 = record {
+      agree = λ u o has. elim (same_or u t) [
+        | inl z ↦ absurd (subst (HasOutcome o) (ap (λ (i : ℕ). (ks1 i).life) z ∙ life1) has)
+        | inr z ↦ (let e = with_at-other ks t k1 u z in subst (λ (q : Ticket). ReportAgrees old.memory (ticket old.desk u) q o) (sym e) (a.agree u o (subst (λ (q : Ticket). HasOutcome o q.life) e has)))
+      ];
+      made = λ i d q. made1 _ (a.made i d q);
+    }
+      where
+        made1 : (z : Report) → IsMade p ks z → IsMade p ks1 z
+        made1 z h = elim (same_or z.ticket t) [
+          | inl q ↦ (let c : Freed h.result ≡ AtRogue = sym h.freed ∙ ap (λ (i : ℕ). (ks i).life) q ∙ life in absurd cc)
+          | inr q ↦ (let e = sym (with_at-other ks t k1 z.ticket q) in record { result = h.result; freed = subst (λ (b : Ticket). b.life ≡ Freed h.result) e h.freed; is = h.is ∙ ap (λ (b : Ticket). freed_report z.ticket (p.requests z.ticket) b h.result) e })
+        ]
+
+    full1 : FullAgrees (ks1 t).life old.memory x (ks1 t)
+    full1 =
+        subst (λ (b : Life). FullAgrees b old.memory x (ks1 t)) (sym life1)
+        (subst (λ (z : Ticket). FullAgrees AtRogue old.memory x z) (sym (with_at-same ks t k1)) (refl, refl, λ good. suffix-drop-is (remain (word_at old.memory) x.block (field_of old.memory x.block Lastp)) (own x) suffix))
 
 -- ---- the ticket is built and lives
 
@@ -354,22 +450,50 @@ module _ (g : BenchSetting) (p : Plan) (ms : List Moment) (ks : ℕ → Ticket) 
       open-lives (Freed q) i = absurd i
       open-lives l i = refl
 
+rogue-or : (l : Life) → (l ≡ AtRogue) ⊎ (l ≡ AtRogue → ⊥)
+rogue-or AtRogue = inl refl
+rogue-or l = inr (λ e. cc)
+
+full-of : (l : Life) (m : List ℕ) (x : DeskTicket) (k : Ticket) → (l ≡ AtRogue → ⊥) → EndAgrees l m x k → FullAgrees l m x k
+full-of AtRogue m x k n e = absurd (n refl)
+full-of l m x k n e = e
+
 pub takes-report : TakesReport
 takes-report g p ms m ks t setting bytes r steps of j a e q state status ends =
     let w = last (opened g) ms in
-    let o = state-open (ks t).life (state_of w.memory (ticket w.desk t)) state in
+    let x = ticket w.desk t in
+    let o = state-open (ks t).life (state_of w.memory x) state in
     let l = within g p ms ks t j o in
     let alive = lives-here g p ms ks t j o in
-    let words = state-and-status-tell g p ms ks setting bytes r j of t alive state status in
+    let live = stage-lives w.desk t alive in
     let d = subst (λ (z : Step). Does g w m.entry.caller z m.reply m.after) e steps.does in
-    let made = subst (λ (z : Option ℕ). TakesOf z w m.reply m.after) q d in
-    takes g p ms m ks t setting bytes r steps of j a l e made.1 words state status ends (stage-lives w.desk t alive)
+    let made = (subst (λ (z : Option ℕ). TakesOf z w m.reply m.after) q d).1 in
+    elim (rogue-or (ks t).life) [
+      | inl z ↦
+          let ns = ks1 g p ms m ks t setting bytes r steps of j a l z live in
+          let i = joins1 g p ms m ks t setting bytes r steps of j a l z live in
+          let life = life1 g p ms m ks t setting bytes r steps of j a l z live in
+          let state1 = subst (λ (b : Life). StateAgrees b (state_of w.memory x)) (sym life) tt in
+          let status1 = subst (λ (b : Life). StatusAgrees b (status_byte w.memory x) (ns t).status) (sym life) tt in
+          let words = state-and-status-tell g p ms ns setting bytes r i of t alive state1 status1 in
+          takes g p ms m ns t setting bytes r steps of i (reported1 g p ms m ks t setting bytes r steps of j a l z live) l e made words state1 status1 (full1 g p ms m ks t setting bytes r steps of j a l z live) live
+      | inr z ↦
+          let words = state-and-status-tell g p ms ks setting bytes r j of t alive state status in
+          takes g p ms m ks t setting bytes r steps of j a l e made words state status (full-of (ks t).life w.memory x (ks t) z ends) live
+    ]
 
 pub sweeps-report : SweepsReport
 sweeps-report g p ms m ks t setting bytes r steps of j a e lost ends =
     let w = last (opened g) ms in
-    let o = lost-open (ks t).life (is_sensing (ticket w.desk t).stage) (is_rogue w.desk (ticket w.desk t)) lost in
+    let x = ticket w.desk t in
+    let o = lost-open (ks t).life (is_sensing x.stage) (is_rogue w.desk x) lost in
     let l = within g p ms ks t j o in
-    let alive = lives-here g p ms ks t j o in
-    let d = subst (λ (z : Step). Does g w m.entry.caller z m.reply m.after) e steps.does in
-    swept g p ms m ks t setting bytes r steps of j a l e d.1 lost ends (stage-lives w.desk t alive)
+    let live = stage-lives w.desk t (lives-here g p ms ks t j o) in
+    let d = (subst (λ (z : Step). Does g w m.entry.caller z m.reply m.after) e steps.does).1 in
+    elim (rogue-or (ks t).life) [
+      | inl z ↦
+          let ns = ks1 g p ms m ks t setting bytes r steps of j a l z live in
+          let lost1 = subst (λ (b : Life). IsLostToReset b (is_sensing x.stage) (is_rogue w.desk x)) (sym (life1 g p ms m ks t setting bytes r steps of j a l z live)) tt in
+          swept g p ms m ns t setting bytes r steps of (joins1 g p ms m ks t setting bytes r steps of j a l z live) (reported1 g p ms m ks t setting bytes r steps of j a l z live) l e d lost1 (full1 g p ms m ks t setting bytes r steps of j a l z live) live
+      | inr z ↦ swept g p ms m ks t setting bytes r steps of j a l e d lost (full-of (ks t).life w.memory x (ks t) z ends) live
+    ]

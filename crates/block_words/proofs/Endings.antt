@@ -80,6 +80,12 @@ abbrev pub has_sense : Life → Bool
 has_sense Asked = true
 has_sense l = false
 
+-- what is asked, and of a ticket of a unit that breaks the rules STATUS as well
+abbrev pub FullAgrees : Life → List ℕ → DeskTicket → Ticket → Type 0
+FullAgrees AtRogue m x k =
+    (buffer m x ≡ k.buffer) × (status_byte m x ≡ k.status) × (k.status ≡ status_code Good → remain (word_at m) x.block (field_of m x.block field.Lastp) ≡ drop k.lastp (own x))
+FullAgrees l m x k = EndAgrees l m x k
+
 -- a word of a block beside START, RESTART, STATE, SEL and GATE
 abbrev pub IsTold : ℕ → Type 0
 IsTold i = ((0x08 ≤ i) × (i + 4 ≤ 0x10)) ⊎ (((0x14 ≤ i) × (i + 4 ≤ 0x18)) ⊎ (0x20 ≤ i))
@@ -122,28 +128,28 @@ module _ (m n : List ℕ) (x y : DeskTicket) (k : Ticket) (block : y.block ≡ x
     unsensed = λ c. unsensed l e i;
   }
 
-  pub end-agrees : (o : Outcome) (j : Ticket) → EndMove o k j → StatusAgrees k.life (status_byte m x) k.status → EndAgrees k.life m x k → ReportAgrees n y j o
+  pub end-agrees : (o : Outcome) (j : Ticket) → EndMove o k j → StatusAgrees k.life (status_byte m x) k.status → FullAgrees k.life m x k → ReportAgrees n y j o
   end-agrees o j (refused st e) s a =
-      plain o (Rejected st) (Ended Done) e tt refl refl (λ d. subst (λ (l : Life). StatusAgrees l (status_byte m x) k.status) e s) (λ d good. absurd (refused_is st e good)) (subst (λ (l : Life). EndAgrees l m x k) e a)
+      plain o (Rejected st) (Ended Done) e tt refl refl (λ d. subst (λ (l : Life). StatusAgrees l (status_byte m x) k.status) e s) (λ d good. absurd (refused_is st e good)) (subst (λ (l : Life). FullAgrees l m x k) e a)
   end-agrees o j (finished e) s a =
-      let z = subst (λ (l : Life). EndAgrees l m x k) e a in
+      let z = subst (λ (l : Life). FullAgrees l m x k) e a in
       plain o (Finished o) (Ended o) e tt refl refl (λ d. subst (λ (l : Life). StatusAgrees l (status_byte m x) k.status) (e ∙ ap Finished d) s) z.1 z.0
   end-agrees o j (rogue e) s a =
-      let z = subst (λ (l : Life). EndAgrees l m x k) e a in
+      let z = subst (λ (l : Life). FullAgrees l m x k) e a in
       plain o AtRogue (Ended o) e tt refl refl (λ d. z.1) (λ d good. z.2 good) z.0
   end-agrees o j (lost e r) s a =
       let none : o ≡ Done → ⊥ = λ d. (let z : Reset ≡ Done = sym r ∙ d in absurd cc) in
-      plain o Lost (Ended Reset) e tt refl refl (λ d. absurd (none d)) (λ d good. absurd (none d)) (subst (λ (l : Life). EndAgrees l m x k) e a)
+      plain o Lost (Ended Reset) e tt refl refl (λ d. absurd (none d)) (λ d good. absurd (none d)) (subst (λ (l : Life). FullAgrees l m x k) e a)
   end-agrees o j (lost_asking e) s a = record {
     status = λ d c. absurd (false≢true (sym c ∙ checked_is AskLost e tt));
     checked = λ d c. asked_is AskLost e refl;
     last = λ d good. absurd (good-check good (asked_is AskLost e refl));
-    bytes = buffers ∙ subst (λ (l : Life). EndAgrees l m x k) e a;
+    bytes = buffers ∙ subst (λ (l : Life). FullAgrees l m x k) e a;
     sensed = λ c. absurd (false≢true (sym (sensed_is AskLost e tt) ∙ c));
     unsensed = λ c. unsensed AskLost e tt;
   }
   end-agrees o j (sensed e) s a =
-      let z = subst (λ (l : Life). EndAgrees l m x k) e a in
+      let z = subst (λ (l : Life). FullAgrees l m x k) e a in
       record {
         status = λ d c. absurd (false≢true (sym c ∙ checked_is Asked e tt));
         checked = λ d c. asked_is Asked e refl;

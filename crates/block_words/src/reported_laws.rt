@@ -21,12 +21,12 @@ pub fn runs_report()
 {}
 
 /// Where STATE and STATUS agree with the life of the ticket that TakeDone takes, and its buffer, its LASTP and its sense area with the
-/// ticket (`EndAgrees`), the step is joined, and leaves all reported that was so.
+/// ticket (`EndAgrees`), a joined and reported run is so after the step too. Of a unit that breaks the rules nothing is asked.
 pub fn takes_report()
     ensures { TakesReport }
 {}
 
-/// So is Sweep of a ticket that a reset took from the chip.
+/// And so after Sweep of a ticket that a reset took from the chip.
 pub fn sweeps_report()
     ensures { SweepsReport }
 {}
