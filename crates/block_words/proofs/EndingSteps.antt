@@ -71,7 +71,7 @@ use Rattle.word_owners.specs.Pointers.{IsSuffix}
 use Rattle.word_owners.proofs.Buffers.{pointers_stay}
 use Rattle.block_words.specs.EndedReports.{HasOutcome}
 use Rattle.block_words.specs.EndedWords.{IsEndedOrUnlinked}
-use Rattle.block_words.specs.EndingSteps.{EndAgrees, TakesReport, SweepsReport}
+use Rattle.block_words.specs.EndingSteps.{EndAgrees, TakesReport, SweepsReport, JoinedStepsReport}
 use Rattle.block_words.specs.LiveWords.{IsOfRules}
 use Rattle.block_words.specs.ReportedRuns.{IsMade, AreReported, IsReportedRun}
 use Rattle.block_words.proofs.EndedReports.{outcome-over}
@@ -497,3 +497,10 @@ sweeps-report g p ms m ks t setting bytes r steps of j a e lost ends =
           swept g p ms m ns t setting bytes r steps of (joins1 g p ms m ks t setting bytes r steps of j a l z live) (reported1 g p ms m ks t setting bytes r steps of j a l z live) l e d lost1 (full1 g p ms m ks t setting bytes r steps of j a l z live) live
       | inr z ↦ swept g p ms m ks t setting bytes r steps of j a l e d lost (full-of (ks t).life w.memory x (ks t) z ends) live
     ]
+
+pub joined-steps-report : JoinedStepsReport
+joined-steps-report g p ms m ks setting bytes r steps of j a plain s = (
+  s.tickets,
+  joined-on g p ms m ks j s,
+  subst (λ (w : World). AreReported p w s.tickets) (sym (ends_after (opened g) ms m)) (reports-stay g p ms m ks j.spare setting bytes r steps of j.joined s (λ e. absurd (false≢true (sym plain ∙ e))) a),
+)

@@ -1,5 +1,5 @@
--- What is asked at TakeDone and Sweep of the ticket that they take, for its report to be the one that the moves make. Source: own.
-use Rattle.std.specs.Prelude.{◌≡◌, ℕ, ◌+◌, List, [], ◌∷◌, ◌++◌, drop, Some}
+-- What is asked at TakeDone and Sweep of the ticket that they take, for its report to be the one that the moves make; nothing is at other steps. Source: own.
+use Rattle.std.specs.Prelude.{◌≡◌, ℕ, ◌+◌, false, List, [], ◌∷◌, ◌++◌, drop, Some}
 use Rattle.scsi_words.specs.declared.statuses.kinds.Status.TheVariants.{Good}
 use Rattle.scsi_words.specs.Statuses.{status_code}
 use Rattle.bench_words.specs.Memory.{word_at, bytes_at}
@@ -21,9 +21,10 @@ use Rattle.world_law.specs.World.{BenchSetting, IsBenchSetting}
 use Rattle.word_owners.specs.Worlds.{HasBytes}
 use Rattle.run_joined.specs.BlockWords.{StateAgrees, StatusAgrees}
 use Rattle.run_joined.specs.DeskLives.{IsLostToReset}
+use Rattle.run_joined.specs.Joined.{StepJoins}
 use Rattle.run_joined.specs.JoinedRuns.{RunJoins}
 use Rattle.run_joined.specs.Plans.{IsPlanOf}
-use Rattle.block_words.specs.ReportedRuns.{AreReported, IsReportedRun}
+use Rattle.block_words.specs.ReportedRuns.{AreReported, is_ending, IsReportedRun}
 
 -- By the life before the step: the buffer has the ticket's bytes; after GOOD, LASTP denotes the buffer from the ticket's position on; and once its sense
 -- was asked for, the sense area has the ticket's. Of a ticket of a unit that breaks the rules nothing is asked:
@@ -52,3 +53,9 @@ SweepsReport =
     → RunJoins g p ms ks → AreReported p (last (opened g) ms) ks → m.entry.step ≡ step.Sweep t
     → IsLostToReset (ks t).life (is_sensing (ticket (last (opened g) ms).desk t).stage) (is_rogue (last (opened g) ms).desk (ticket (last (opened g) ms).desk t))
     → EndAgrees (ks t).life (last (opened g) ms).memory (ticket (last (opened g) ms).desk t) (ks t) → IsReportedRun g p (ms ++ m ∷ [])
+
+-- and so after every other step that is joined, those of the chip among them, with nothing asked of memory
+abbrev pub JoinedStepsReport : Type 0
+JoinedStepsReport =
+    (g : BenchSetting) (p : Plan) (ms : List Moment) (m : Moment) (ks : ℕ → Ticket) → IsBenchSetting g → HasBytes g → IsRun g (opened g) ms → Steps g (last (opened g) ms) m → IsPlanOf g (last (opened g) ms) p
+    → RunJoins g p ms ks → AreReported p (last (opened g) ms) ks → is_ending m.entry.step ≡ false → StepJoins g p (last (opened g) ms) m ks → IsReportedRun g p (ms ++ m ∷ [])

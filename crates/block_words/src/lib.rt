@@ -11,5 +11,5 @@ pub use laws::{
     words_stay,
 };
 pub use reported_laws::{
-    reported_runs_fit, reports_stay, runs_report, sweeps_report, takes_report,
+    joined_steps_report, reported_runs_fit, reports_stay, runs_report, sweeps_report, takes_report,
 };

@@ -1,6 +1,6 @@
 //! Laws of the reports of a run. Each function does nothing; its contract is the law.
 
-ghost use Rattle.block_words.specs.EndingSteps.{SweepsReport, TakesReport};
+ghost use Rattle.block_words.specs.EndingSteps.{JoinedStepsReport, SweepsReport, TakesReport};
 ghost use Rattle.block_words.specs.ReportedRuns.{ReportedRunsFit, ReportsStay, RunsReport};
 
 /// In a joined run what agrees with tickets that have their outcome, and that the reports made so far are those of the moves, goes on
@@ -29,4 +29,9 @@ pub fn takes_report()
 /// And so after Sweep of a ticket that a reset took from the chip.
 pub fn sweeps_report()
     ensures { SweepsReport }
+{}
+
+/// And so after every other step that is joined, those of the chip among them.
+pub fn joined_steps_report()
+    ensures { JoinedStepsReport }
 {}
