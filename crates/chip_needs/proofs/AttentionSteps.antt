@@ -76,12 +76,12 @@ IsStopped JobOver = Unit {0}
 IsStopped s = ⊥
 
 -- the same by the stop stage and the registers
-record Told (w : World) : Type 0 where
-  runs : w.stop ≡ stop.Run → w.bus.atn ≡ true → asserts_atn w.regs.dsp ≡ true
-  waits : w.stop ≡ stop.Clear → w.bus.atn ≡ true → ⊥
-  repairs : (x : DataMove) → w.stop ≡ stop.Mismatch → move_at (w.regs.dsp - 8) ≡ Some x → w.bus.atn ≡ true → ⊥
+pub record Told (w : World) : Type 0 where
+  pub runs : w.stop ≡ stop.Run → w.bus.atn ≡ true → asserts_atn w.regs.dsp ≡ true
+  pub waits : w.stop ≡ stop.Clear → w.bus.atn ≡ true → ⊥
+  pub repairs : (x : DataMove) → w.stop ≡ stop.Mismatch → move_at (w.regs.dsp - 8) ≡ Some x → w.bus.atn ≡ true → ⊥
 
-clash : {R : Type 0} (w : World) (x y : Stop) → w.stop ≡ x → w.stop ≡ y → (x ≡ y → ⊥) → R
+pub clash : {R : Type 0} (w : World) (x y : Stop) → w.stop ≡ x → w.stop ≡ y → (x ≡ y → ⊥) → R
 clash w x y e f n = absurd (n (sym e ∙ f))
 
 told-at : (version : ℕ) (units : List RigUnit) (s : Spot) (c : Counts) (w : World) → Holds version units s c w → Good s w.bus → Told w
@@ -138,7 +138,7 @@ none-good JobOver b n = n
 none-good (ResetAt p) b n = n
 
 -- no stop leads to Run
-not-run : (cause : Cause) → stop_for cause ≡ stop.Run → ⊥
+pub not-run : (cause : Cause) → stop_for cause ≡ stop.Run → ⊥
 not-run (Sir v) e = by (v == 5) e
   where
     by : (b : Bool) → (if b then stop.Clear else stop.MustReset) ≡ stop.Run → ⊥
@@ -151,29 +151,29 @@ not-run Udc e = absurd cc
 not-run Rst e = absurd cc
 not-run Sto e = absurd cc
 
-data-not : (d : ℕ) → 0x288 < d → d < 0x448 → d ≢ 0x2A0 → asserts_atn d ≡ false
+pub data-not : (d : ℕ) → 0x288 < d → d < 0x448 → d ≢ 0x2A0 → asserts_atn d ≡ false
 data-not d l g ne = grind (arith, nat_tests)
 
-chain-not : (d : ℕ) → 0x8000 ≤ d → asserts_atn d ≡ false
+pub chain-not : (d : ℕ) → 0x8000 ≤ d → asserts_atn d ≡ false
 chain-not d l = grind (arith, nat_tests)
 
-calm-data : (d : ℕ) → 0x2B8 < d → d < 0x440 → nat_eq d 0x60 || (nat_eq d 0x278 || (nat_eq d 0x298 || nat_eq d 0x440)) ≡ false
+pub calm-data : (d : ℕ) → 0x2B8 < d → d < 0x440 → nat_eq d 0x60 || (nat_eq d 0x278 || (nat_eq d 0x298 || nat_eq d 0x440)) ≡ false
 calm-data d l g = grind (arith, nat_tests)
 
-calm-chain : (d : ℕ) → 0x8000 ≤ d → nat_eq d 0x60 || (nat_eq d 0x278 || (nat_eq d 0x298 || nat_eq d 0x440)) ≡ false
+pub calm-chain : (d : ℕ) → 0x8000 ≤ d → nat_eq d 0x60 || (nat_eq d 0x278 || (nat_eq d 0x298 || nat_eq d 0x440)) ≡ false
 calm-chain d l = grind (arith, nat_tests)
 
-move-below : (phase : DataPhase) (e : Entry) → IsEntry e → move_place phase e < 0x440
+pub move-below : (phase : DataPhase) (e : Entry) → IsEntry e → move_place phase e < 0x440
 move-below In (Segment j) h = omega (arith, h)
 move-below In (Context k) h = omega (arith, h)
 move-below Out (Segment j) h = omega (arith, h)
 move-below Out (Context k) h = omega (arith, h)
 
-behind-below : (phase : DataPhase) (k : ℕ) → IsEntry (Context k) → move_place phase (Context k) + 8 < 0x440
+pub behind-below : (phase : DataPhase) (k : ℕ) → IsEntry (Context k) → move_place phase (Context k) + 8 < 0x440
 behind-below In k h = omega (arith, h)
 behind-below Out k h = omega (arith, h)
 
-label-below : (phase : DataPhase) (k : ℕ) → context_label phase k + 16 < 0x440
+pub label-below : (phase : DataPhase) (k : ℕ) → context_label phase k + 16 < 0x440
 label-below In k = by (nat_eq k 0)
   where
     by : (b : Bool) → (if b then 0x3E0 else 0x3F8) + 16 < 0x440
@@ -372,7 +372,7 @@ step-told g setting bytes ms r caller (step.Act k) answer new may d h = acted-to
 step-told g setting bytes ms r caller step.ResetBus answer new may d h = of-made (last (opened g) ms) h _ new d.1 (silent (last (opened g) ms) h _ (λ z. absurd cc))
 step-told g setting bytes ms r caller (step.Sense t) answer new may d h = of-made (last (opened g) ms) h _ new d.1 (same (last (opened g) ms) h _ refl refl refl)
 
-told : (g : BenchSetting) → IsBenchSetting g → HasBytes g → (ms : List Moment) → IsRun g (opened g) ms → Told (last (opened g) ms)
+pub told : (g : BenchSetting) → IsBenchSetting g → HasBytes g → (ms : List Moment) → IsRun g (opened g) ms → Told (last (opened g) ms)
 told g setting bytes = by-steps g (λ (ms : List Moment). Told (last (opened g) ms)) (record { runs = λ e z. absurd cc; waits = λ e z. absurd cc; repairs = λ x e f z. absurd cc })
     (λ ms m r s h. subst Told (sym (ends_after (opened g) ms m)) (step-told g setting bytes ms r m.entry.caller m.entry.step m.reply m.after s.enabled s.does h))
 

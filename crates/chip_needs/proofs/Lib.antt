@@ -6,3 +6,4 @@ pub mod FreeCalls
 pub mod Ordinary
 pub mod SentCalls
 pub mod Sending
+pub mod Greeting

@@ -2,3 +2,4 @@ pub mod Attention
 pub mod ToldStatus
 pub mod Ordinary
 pub mod Sending
+pub mod Greeting

@@ -1,6 +1,7 @@
 //! Laws of the calls that the chip makes. Each function does nothing; its contract is the law.
 
 ghost use Rattle.chip_needs.specs.Attention.{AttentionIsTold};
+ghost use Rattle.chip_needs.specs.Greeting.{GreetingsAreTold};
 ghost use Rattle.chip_needs.specs.Ordinary.{AcksFind, OrdinaryStepsJoin, PointersStand};
 ghost use Rattle.chip_needs.specs.Sending.{RogueStepsJoin};
 ghost use Rattle.chip_needs.specs.ToldStatus.{StatusesAreTold};
@@ -9,6 +10,12 @@ ghost use Rattle.chip_needs.specs.ToldStatus.{StatusesAreTold};
 /// of an abort.
 pub fn attention_is_told()
     ensures { AttentionIsTold }
+{}
+
+/// There, but behind SET ATN of an abort, the connected target was selected and heard nothing yet, or units are connected that break the
+/// rules, or nothing is.
+pub fn greetings_are_told()
+    ensures { GreetingsAreTold }
 {}
 
 /// After every list of moves the ticket of a task that shows COMMAND COMPLETE has the status that was told.

@@ -4,6 +4,6 @@
 mod laws;
 
 pub use laws::{
-    acks_find, attention_is_told, ordinary_steps_join, pointers_stand, rogue_steps_join,
-    statuses_are_told,
+    acks_find, attention_is_told, greetings_are_told, ordinary_steps_join, pointers_stand,
+    rogue_steps_join, statuses_are_told,
 };
