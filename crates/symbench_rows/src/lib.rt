@@ -6,4 +6,6 @@ mod files;
 #[cfg(test)]
 mod one;
 #[cfg(test)]
+mod runs;
+#[cfg(test)]
 mod world;
