@@ -4,6 +4,7 @@
 mod buddy;
 mod desk;
 mod rig;
+mod steps;
 mod text;
 mod trace;
 
@@ -23,7 +24,8 @@ fn main(rt: HostRuntime) -> io::Result<()> {
         "desk" => desk::desk(&rt, count),
         "rig" => rig::rig(&rt, count),
         "header" => rig::rig_below_header(&rt, count),
+        "steps" => steps::steps(&rt, count),
         "trace" => trace::trace(&rt, count),
-        _ => println!(rt; "usage: figures buddy|desk|rig|header|trace [N]"),
+        _ => println!(rt; "usage: figures buddy|desk|rig|header|steps|trace [N]"),
     }
 }
