@@ -4,7 +4,7 @@ use crate::faults::is_fault;
 use crate::texts::{REALISTIC_RIG, ROGUE_RIG, SMALL_RIG};
 use rig_reader::read_rig;
 use rig_types::BadKind::{Clash, Missing, NotToml, OutOfRange, Unknown, WrongType};
-use rig_types::{BadKind, Pattern, Unit};
+use rig_types::{BadKind, Pattern, ReadFault, Rig, Unit};
 use std::test::Fail;
 
 /// A unit with the defaults of the keys that have one.
@@ -36,61 +36,84 @@ refusals = 8
 absent = true
 ";
 
-#[test]
-fn the_rigs(rt: HostRuntime) -> Result<(), Fail> {
-    let small = [Unit {
-        blocks: 64,
-        pattern: Pattern::Count,
-        ..PLAIN
-    }];
-    let realistic = [PLAIN, Unit { lun: 1, ..PLAIN }, Unit { target: 1, ..PLAIN }];
-    let rogue = [
-        Unit {
-            blocks: 128,
+/// A rig, and what it reads as: version, retries, step limit and autosense, and the units.
+struct Row<'a> {
+    text: &'a str,
+    limits: (u8, u8, u32, bool),
+    units: &'a [Unit],
+}
+
+const RIGS: [Row<'static>; 4] = [
+    Row {
+        text: SMALL_RIG,
+        limits: (1, 3, 1_048_576, false),
+        units: &[Unit {
+            blocks: 64,
             pattern: Pattern::Count,
-            depth: 200,
-            disconnects: 4,
-            refusals: 1,
             ..PLAIN
-        },
-        Unit {
-            target: 3,
-            lun: 2,
-            blocks: 16,
-            depth: 8,
-            rogue: true,
-            ..PLAIN
-        },
-        Unit {
-            target: 5,
-            blocks: 16,
-            depth: 1,
+        }],
+    },
+    Row {
+        text: REALISTIC_RIG,
+        limits: (1, 3, 1_048_576, false),
+        units: &[PLAIN, Unit { lun: 1, ..PLAIN }, Unit { target: 1, ..PLAIN }],
+    },
+    Row {
+        text: ROGUE_RIG,
+        limits: (2, 1, 1_048_576, true),
+        units: &[
+            Unit {
+                blocks: 128,
+                pattern: Pattern::Count,
+                depth: 200,
+                disconnects: 4,
+                refusals: 1,
+                ..PLAIN
+            },
+            Unit {
+                target: 3,
+                lun: 2,
+                blocks: 16,
+                depth: 8,
+                rogue: true,
+                ..PLAIN
+            },
+            Unit {
+                target: 5,
+                blocks: 16,
+                depth: 1,
+                absent: true,
+                ..PLAIN
+            },
+        ],
+    },
+    Row {
+        text: GREATEST,
+        limits: (1, 8, 4_194_304, true),
+        units: &[Unit {
+            target: 6,
+            lun: 7,
+            pattern: Pattern::Count,
+            depth: 64,
+            disconnects: 8,
+            refusals: 8,
             absent: true,
             ..PLAIN
-        },
-    ];
-    let greatest = [Unit {
-        target: 6,
-        lun: 7,
-        pattern: Pattern::Count,
-        depth: 64,
-        disconnects: 8,
-        refusals: 8,
-        absent: true,
-        ..PLAIN
-    }];
-    // The text; version, retries, step limit and autosense; the units.
-    let rows: [(&str, (u8, u8, u32, bool), &[Unit]); 4] = [
-        (SMALL_RIG, (1, 3, 1_048_576, false), &small),
-        (REALISTIC_RIG, (1, 3, 1_048_576, false), &realistic),
-        (ROGUE_RIG, (2, 1, 1_048_576, true), &rogue),
-        (GREATEST, (1, 8, 4_194_304, true), &greatest),
-    ];
-    for (text, limits, units) in rows {
-        let rig = read_rig(rt.alloc(), text.as_bytes())?;
-        let found = (rig.version, rig.retries, rig.step_limit, rig.autosense);
-        assert!(rt; found == limits, "{text}");
-        assert!(rt; rig.units.as_slice() == units, "{text}");
+        }],
+    },
+];
+
+/// Whether a rig is what a row says.
+fn is_row(rig: &Rig, row: &Row<'_>) -> bool {
+    (rig.version, rig.retries, rig.step_limit, rig.autosense) == row.limits
+        && rig.units.as_slice() == row.units
+}
+
+#[test]
+fn the_rigs(rt: HostRuntime) -> Result<(), Fail> {
+    for row in &RIGS {
+        let rig = read_rig(rt.alloc(), row.text.as_bytes())?;
+        assert!(rt; is_row(&rig, row), "{}", row.text);
     }
     Ok(())
 }
@@ -180,14 +203,19 @@ const FAULTS: [(&str, &str, BadKind); 21] = [
     ),
 ];
 
+/// Whether the reader finds this fault first.
+fn has_fault(answer: &Result<Rig, ReadFault>, key: &str, kind: BadKind) -> bool {
+    match answer {
+        Ok(_) => false,
+        Err(fault) => is_fault(fault, key, kind),
+    }
+}
+
 #[test]
 fn faults_of_rigs(rt: HostRuntime) -> Result<(), Fail> {
-    for (text, key, kind) in FAULTS {
+    for (text, key, kind) in &FAULTS {
         let answer = read_rig(rt.alloc(), text.as_bytes());
-        assert!(rt;
-            matches!(&answer, Err(fault) if is_fault(fault, key, kind)),
-            "{text}"
-        );
+        assert!(rt; has_fault(&answer, key, *kind), "{text}");
     }
     Ok(())
 }
