@@ -95,12 +95,12 @@ selects-greeted b id j e = subst (λ (k : ℕ). IsGreeted (device_at (with_devic
       | inr l ↦ subst (λ (x : DeviceState). IsGreeted x.target.link) (sym (get_or_past (slice_set b.devices id (device_selected (device_at b id))) id no_device (omega (arith, l, length-set b.devices id (device_selected (device_at b id)))))) tt
     ])
 
-settled-greeted : (o : Option Candidate) (there : Bool) (id word : ℕ) (b : BusState) → settled_as.Selected ≡ settles o there → AreGreeted (after_selection o there id word b)
+pub settled-greeted : (o : Option Candidate) (there : Bool) (id word : ℕ) (b : BusState) → settled_as.Selected ≡ settles o there → AreGreeted (after_selection o there id word b)
 settled-greeted (Some c) there id word b e = absurd cc
 settled-greeted None true id word b e = selects-greeted b id
 settled-greeted None false id word b e = absurd cc
 
-by_bool : (P Q C : Type 0) (b : Bool) → (P → C) → (Q → C) → MatchBool b P Q → C
+pub by_bool : (P Q C : Type 0) (b : Bool) → (P → C) → (Q → C) → MatchBool b P Q → C
 by_bool P Q C true f g h = f h
 by_bool P Q C false f g h = g h
 
@@ -129,7 +129,7 @@ module _ (units : List RigUnit) (live_at : ℕ → Nexus → Option ℕ) where
   selects word alternate place old end new d = by_bool _ _ (Selects old end new) old.regs.con (none-called Iid old end new) (selects-by word place alternate old end new) d
 
   -- ---- an instruction that calls nothing
-  abbrev is_silent : Op → Bool
+  abbrev pub is_silent : Op → Bool
   is_silent (op.Load r n place) = true
   is_silent (op.Store r n place) = true
   is_silent (op.Jump condition.Always a) = true
@@ -143,7 +143,7 @@ module _ (units : List RigUnit) (live_at : ℕ → Nexus → Option ℕ) where
   stores-silent None r n old end new h = h.bus_is
   stores-silent (Some a) r n old end new h = h.bus_is
 
-  silent-op : (word : ℕ) (x : Op) → is_silent x ≡ true → (before old : Chip BusState) (end : StepEnd) (new : Chip BusState) → Row calls word x before old end new → new.bus ≡ old.bus
+  pub silent-op : (word : ℕ) (x : Op) → is_silent x ≡ true → (before old : Chip BusState) (end : StepEnd) (new : Chip BusState) → Row calls word x before old end new → new.bus ≡ old.bus
   silent-op word (op.Load r n place) e before old end new h = by_bool _ _ (new.bus ≡ old.bus) (nat_eq (low_bits old.regs.dsa place) (r % 4)) (loads-silent (address_of old.memory old.regs.dsa place n) r n old end new) (λ (s : Stops Iid old end new). s.bus_is) h
   silent-op word (op.Store r n place) e before old end new h = by_bool _ _ (new.bus ≡ old.bus) (nat_eq (low_bits old.regs.dsa place) (r % 4)) (stores-silent (address_of old.memory old.regs.dsa place n) r n old end new) (λ (s : Stops Iid old end new). s.bus_is) h
   silent-op word (op.Jump condition.Always a) e before old end new h = h.decides.1

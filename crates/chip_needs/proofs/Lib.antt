@@ -7,3 +7,5 @@ pub mod Ordinary
 pub mod SentCalls
 pub mod Sending
 pub mod Greeting
+pub mod AfterSelection
+pub mod MessageStep

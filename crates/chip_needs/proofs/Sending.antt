@@ -120,7 +120,7 @@ heard-so BusFree t h k = k
 heard-so l t h k = absurd h
 
 -- ---- the bus
-device-so : (b : BusState) (id : ℕ) (d : DeviceState) → IsRogueOrFree d.target.link → IsRogueOrFree (device_at (with_device b id d) id).target.link
+pub device-so : (b : BusState) (id : ℕ) (d : DeviceState) → IsRogueOrFree d.target.link → IsRogueOrFree (device_at (with_device b id d) id).target.link
 device-so b id d h = elim (cases_lt id (length b.devices)) [
   | inl l ↦ subst (λ (x : DeviceState). IsRogueOrFree x.target.link) (sym (get_or-set_same b.devices id d no_device l)) h
   | inr l ↦ subst (λ (x : DeviceState). IsRogueOrFree x.target.link) (sym (get_or_past (slice_set b.devices id d) id no_device (omega (arith, l, length-set b.devices id d)))) tt
@@ -132,7 +132,7 @@ becomes-so false b id d e h i c = let z : id ≡ i = same_Some id i (sym e ∙ c
 
 module _ (p : Plan) (units : List RigUnit) (live_at : ℕ → Nexus → Option ℕ) where
   -- a call of a block move
-  abbrev IsOfMove : Event → Type 0
+  abbrev pub IsOfMove : Event → Type 0
   IsOfMove event.ClearAck = Unit {0}
   IsOfMove (event.Phase word shown) = Unit {0}
   IsOfMove (event.ByteOut byte taken) = Unit {0}
@@ -163,7 +163,7 @@ module _ (p : Plan) (units : List RigUnit) (live_at : ℕ → Nexus → Option �
   ack-so true b h = acked-so b.connected b refl h
   ack-so false b h = h
 
-  call-so : (e : Event) (b n : BusState) → IsOfMove e → moves units live_at b e n → NoneOfRules b → NoneOfRules n
+  pub call-so : (e : Event) (b n : BusState) → IsOfMove e → moves units live_at b e n → NoneOfRules b → NoneOfRules n
   call-so event.ClearAck b n f m h = subst NoneOfRules (sym m) (ack-so b.ack b h)
   call-so (event.Phase word shown) b n f m h = subst NoneOfRules (sym m.1) (turn-so b.connected word b refl h)
   call-so (event.ByteOut byte taken) b n f m h = subst NoneOfRules (sym m.1) (out-so taken b.connected byte b refl h)
@@ -192,7 +192,7 @@ module _ (p : Plan) (units : List RigUnit) (live_at : ℕ → Nexus → Option �
   message-found i ks BusFree h = tt
   message-found i ks l h = absurd h
 
-  needs-found : (e : Event) (b : BusState) (ks : ℕ → Ticket) → IsOfMove e → NoneOfRules b → Needs p live_at b e ks
+  pub needs-found : (e : Event) (b : BusState) (ks : ℕ → Ticket) → IsOfMove e → NoneOfRules b → Needs p live_at b e ks
   needs-found event.ClearAck b ks f h i c = ack-found i ks (targets b i).link (h i c)
   needs-found (event.Phase word shown) b ks f h i c = choice-found b.atn (targets b i).link (h i c)
   needs-found (event.ByteOut byte taken) b ks f h i c = byte-found i ks (targets b i).link byte (h i c)
@@ -208,7 +208,7 @@ module _ (p : Plan) (units : List RigUnit) (live_at : ℕ → Nexus → Option �
   link-so None b e h = ap (λ (x : Option ℕ). link_resets (device_of b x).target.link) e
   link-so (Some i) b e h = ap (λ (x : Option ℕ). link_resets (device_of b x).target.link) e ∙ no-resets (targets b i).link (h i e)
 
-  resets-none : (e : Event) (b : BusState) → IsOfMove e → NoneOfRules b → resets_device b e ≡ false
+  pub resets-none : (e : Event) (b : BusState) → IsOfMove e → NoneOfRules b → resets_device b e ≡ false
   resets-none event.ClearAck b f h = refl
   resets-none (event.Phase word shown) b f h = refl
   resets-none (event.ByteOut byte taken) b f h = refl

@@ -1,5 +1,7 @@
 -- What is connected behind a selection, while the message to it isn't sent. Source: own.
-use Rattle.std.specs.Prelude.{◌≡◌, ◌≢◌, ℕ, true, List, [], Some}
+use Rattle.std.specs.Prelude.{◌≡◌, ◌≢◌, ℕ, ◌+◌, ◌==◌, ◌&&◌, ◌||◌, nat_le, Bool, true, List, [], Some}
+use Rattle.driver_script.specs.Script.{label_of}
+use Rattle.driver_script.specs.declared.labels.Name.TheVariants as label
 use Rattle.target_law.specs.Target as connection_state
 use Rattle.target_law.specs.Target.{ConnectionState, BusFree, RogueConnected}
 use Rattle.bus_law.specs.Bus.{BusState}
@@ -25,3 +27,14 @@ abbrev pub GreetingsAreTold : Type 0
 GreetingsAreTold =
     (g : BenchSetting) → IsBenchSetting g → HasBytes g → (ms : List Moment) → IsRun g (opened g) ms → (last (opened g) ms).stop ≡ Run → (last (opened g) ms).bus.atn ≡ true
     → (last (opened g) ms).regs.dsp ≢ 0x280 → (last (opened g) ms).regs.dsp ≢ 0x288 → AreGreeted (last (opened g) ms).bus
+
+-- behind a selection, up to the message to the target: of SELECT, of SENSE and of RESETJOB
+abbrev pub is_behind_selection : (dsp : ℕ) → Bool
+is_behind_selection dsp =
+    (nat_le (label_of label.Select + 0x08) dsp && nat_le dsp 0x080) || ((nat_le (label_of label.Sense + 0x08) dsp && nat_le dsp 0x458) || dsp == 0x2A0)
+
+-- where the chip runs at such an address, with ATN asserted or not
+abbrev pub SelectionsAreGreeted : Type 0
+SelectionsAreGreeted =
+    (g : BenchSetting) → IsBenchSetting g → HasBytes g → (ms : List Moment) → IsRun g (opened g) ms → (last (opened g) ms).stop ≡ Run → is_behind_selection (last (opened g) ms).regs.dsp ≡ true
+    → AreGreeted (last (opened g) ms).bus

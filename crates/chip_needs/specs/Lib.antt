@@ -3,3 +3,4 @@ pub mod ToldStatus
 pub mod Ordinary
 pub mod Sending
 pub mod Greeting
+pub mod MessageSteps

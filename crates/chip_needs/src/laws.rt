@@ -1,7 +1,8 @@
 //! Laws of the calls that the chip makes. Each function does nothing; its contract is the law.
 
 ghost use Rattle.chip_needs.specs.Attention.{AttentionIsTold};
-ghost use Rattle.chip_needs.specs.Greeting.{GreetingsAreTold};
+ghost use Rattle.chip_needs.specs.Greeting.{GreetingsAreTold, SelectionsAreGreeted};
+ghost use Rattle.chip_needs.specs.MessageSteps.{MessageStepsJoin};
 ghost use Rattle.chip_needs.specs.Ordinary.{AcksFind, OrdinaryStepsJoin, PointersStand};
 ghost use Rattle.chip_needs.specs.Sending.{RogueStepsJoin};
 ghost use Rattle.chip_needs.specs.ToldStatus.{StatusesAreTold};
@@ -42,4 +43,15 @@ pub fn ordinary_steps_join()
 /// So does a step at any address while no target is connected that keeps the rules.
 pub fn rogue_steps_join()
     ensures { RogueStepsJoin }
+{}
+
+/// Behind a selection, up to the message, the connected target was selected and heard nothing yet, with ATN asserted or not, or units are
+/// connected that break the rules, or nothing is.
+pub fn selections_are_greeted()
+    ensures { SelectionsAreGreeted }
+{}
+
+/// A step of the chip that sends the message behind a selection leaves a run joined that was so, whatever is connected.
+pub fn message_steps_join()
+    ensures { MessageStepsJoin }
 {}
