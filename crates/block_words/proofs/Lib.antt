@@ -2,7 +2,7 @@ mod KeptWords
 pub mod RunSteps
 mod Marks
 mod Turned
-mod Commands
+pub mod Commands
 mod LiveWords
 mod WrittenMemory
 mod EndedBlocks

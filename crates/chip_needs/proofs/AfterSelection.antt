@@ -80,30 +80,32 @@ use Rattle.bus_law.specs.Rooms.{with_room_at}
 use Rattle.bus_law.specs.Reselections.{candidate_named, can_select}
 use Rattle.bus_events.proofs.MadeRooms.{room-is-made}
 
--- ---- the points behind a selection
-abbrev is_greeting : Point → Bool
+-- ---- the points behind a selection, up to the command
+abbrev pub is_greeting : Point → Bool
 is_greeting (At068 t) = true
 is_greeting (At070 t) = true
 is_greeting (At078 t) = true
 is_greeting (At080 t) = true
+is_greeting (At088 t) = true
 is_greeting (At448 t) = true
 is_greeting (At450 t) = true
 is_greeting (At458 t) = true
 is_greeting At2A0 = true
 is_greeting p = false
 
-abbrev spot_greets : Spot → Bool
+abbrev pub spot_greets : Spot → Bool
 spot_greets (Running p) = is_greeting p
 spot_greets s = false
 
 -- those from which the chip comes there: the selections, and the points on the way
-abbrev enters : Point → Bool
+abbrev pub enters : Point → Bool
 enters (At060 t) = true
 enters (At440 t) = true
 enters At298 = true
 enters (At068 t) = true
 enters (At070 t) = true
 enters (At078 t) = true
+enters (At080 t) = true
 enters (At448 t) = true
 enters (At450 t) = true
 enters (At458 t) = true
@@ -134,6 +136,7 @@ greets-at version units c w (InTargets r j) h e = none-so (about (InTargets r j)
 greets-at version units c w (InLuns r j) h e = none-so (about (InLuns r j)).place (chain-out (about (InLuns r j)).place (omega arith)) e
 greets-at version units c w (AtUnit u r) h e = none-so (about (AtUnit u r)).place (chain-out (about (AtUnit u r)).place (omega arith)) e
 greets-at version units c w (BehindUnit u r) h e = none-so (about (BehindUnit u r)).place (chain-out (about (BehindUnit u r)).place (omega arith)) e
+greets-at version units c w (At088 t) h e = refl
 greets-at version units c w p h e = e
 
 -- a restart goes to none of them
@@ -183,7 +186,7 @@ behind-out t phase (Segment j) = by (j == 15)
     by true = last-out phase
     by false = refl
 
-leads : (p : Point) → enters p ≡ false → (q : Spot) → IsNext p q → spot_greets q ≡ false
+pub leads : (p : Point) → enters p ≡ false → (q : Spot) → IsNext p q → spot_greets q ≡ false
 leads (Moves t x) e q is = elim is [ inl x1 ↦ ap spot_greets x1 ∙ behind-out t x.phase x.entry | inr y1 ↦ elim y1 [ inl x2 ↦ ap spot_greets x2.1 | inr y2 ↦ ap spot_greets y2 ] ]
 leads At008 e q is = elim is [ inl x1 ↦ ap spot_greets x1 | inr y1 ↦ elim y1 [ inl x2 ↦ ap spot_greets x2 | inr y2 ↦ ap spot_greets y2.1 ] ]
 leads At030 e q is = elim is [ inl x1 ↦ ap spot_greets x1 | inr y1 ↦ ap spot_greets y1.1 ]
@@ -194,7 +197,7 @@ leads (At060 t) e q is = absurd (false≢true (sym e))
 leads (At068 t) e q is = absurd (false≢true (sym e))
 leads (At070 t) e q is = absurd (false≢true (sym e))
 leads (At078 t) e q is = absurd (false≢true (sym e))
-leads (At080 t) e q is = moved (At088 t) refl q is
+leads (At080 t) e q is = absurd (false≢true (sym e))
 leads (At088 t) e q is = moved (At090 t) refl q is
 leads (At090 t) e q is = asked (At0D8 t) (At098 t) refl refl q is
 leads (At098 t) e q is = either (At0C8 t) (At0A0 t) refl refl q is
@@ -304,11 +307,22 @@ module _ (version : ℕ) (units : List RigUnit) (c : Counts) (w new : World) (wo
       let same : run.chip.bus ≡ w.bus = silent-op w.desk.units (live w.desk) word (instruction k version) s (chip_of w) (after_fetch (chip_of w)) run.end run.chip (row version units p c w h new word answer run k (instruction k version) l place refl) in
       subst AreGreeted (sym (bus-is ∙ same)) (greets_before running_is (ap is_behind_selection h.stays.3 ∙ here))
 
+  -- the message went out
+  command-greets : (t : ℕ) → Holds version units (Running (At088 t)) d new → Greets new
+  command-greets t n e a = absurd (false≢true (ap is_behind_selection (sym n.stays.3) ∙ a))
+
   keeps : (p : Point) → Holds version units (Running p) c w → (q : Spot) → IsNext p q → Holds version units q d new → Greets new
   unfolding instruction
   keeps (At068 t) h q is n = quiet-greets (At068 t) 13 h (omega arith) refl refl refl
   keeps (At070 t) h q is n = quiet-greets (At070 t) 14 h (omega arith) refl refl refl
   keeps (At078 t) h q is n = quiet-greets (At078 t) 15 h (omega arith) refl refl refl
+  keeps (At080 t) h q is n = elim is [
+    | inl x ↦ command-greets t (subst (λ (s : Spot). Holds version units s d new) x n)
+    | inr y ↦ elim y [
+      | inl x ↦ (let z = subst (λ (s : Spot). Holds version units s d new) x n in λ e a. (let f : stop.Run ≡ stop.Mismatch = sym e ∙ z.stays.0 in absurd cc))
+      | inr x ↦ (let z = subst (λ (s : Spot). Holds version units s d new) x n in λ e a. (let f : stop.Run ≡ stop.MustReset = sym e ∙ z.stays.0 in absurd cc))
+    ]
+  ]
   keeps (At448 t) h q is n = quiet-greets (At448 t) 137 h (omega arith) refl refl refl
   keeps (At450 t) h q is n = quiet-greets (At450 t) 138 h (omega arith) refl refl refl
   keeps (At458 t) h q is n = quiet-greets (At458 t) 139 h (omega arith) refl refl refl
@@ -386,7 +400,7 @@ module _ (w : World) (h : Welcomes w) where
   builds-of (Some c) new l answer d = builds-by new l c answer d
 
 -- a restart leads behind no selection
-restart-out : (version : ℕ) (units : List RigUnit) (s : Spot) (c : Counts) (w : World) → w.stop ≡ stop.Clear → Holds version units s c w → is_behind_selection (about (restart_point s)).place ≡ false
+pub restart-out : (version : ℕ) (units : List RigUnit) (s : Spot) (c : Counts) (w : World) → w.stop ≡ stop.Clear → Holds version units s c w → is_behind_selection (about (restart_point s)).place ≡ false
 restart-out version units (Running p) c w e h = (let z : stop.Clear ≡ stop.Run = sym e ∙ h.stays.0 in absurd cc)
 restart-out version units (Mismatched t x left) c w e h = refl
 restart-out version units NotData c w e h = refl

@@ -8,4 +8,6 @@ pub mod SentCalls
 pub mod Sending
 pub mod Greeting
 pub mod AfterSelection
+pub mod HeardBytes
 pub mod MessageStep
+pub mod AfterMessage

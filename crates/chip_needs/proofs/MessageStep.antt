@@ -1,8 +1,8 @@
 -- The step of the chip that sends the message behind a selection.
-use Rattle.std.proofs.Common.{arith, ◌≡◌, inl, inr, ℕ, pos, ◌+◌, ◌%◌, ◌≤◌, ◌==◌, nat_eq, nat_le, Bool, true, false, List, [], ◌∷◌, ◌++◌, length, length-append, slice_set, Option, Some, None, refl, sym, ap, subst, ◌∙◌, if◌then◌else◌}
+use Rattle.std.proofs.Common.{arith, ◌≡◌, inl, inr, ℕ, pos, ◌+◌, ◌%◌, ◌≤◌, ◌==◌, nat_eq, nat_le, Bool, true, false, List, [], ◌∷◌, ◌++◌, length, length-append, Option, Some, None, refl, sym, ap, subst, ◌∙◌, if◌then◌else◌}
 use Rattle.std.specs.Prelude.{◌-◌, ◌&&◌}
-use Rattle.std.proofs.lemmas.Bool.{false≢true, cases_lt}
-use Rattle.std.proofs.lemmas.List.{get_or-set_same, get_or_past, length-set, take_all}
+use Rattle.std.proofs.lemmas.Bool.{false≢true}
+use Rattle.std.proofs.lemmas.List.{take_all}
 use Rattle.std.proofs.lemmas.Option.{same_Some}
 use Rattle.scsi_words.specs.declared.phases.kinds.Phase.{Phase as BusPhase}
 use Rattle.rig_types.specs.declared.rig.Unit.{Unit as RigUnit}
@@ -20,17 +20,12 @@ use Rattle.chip_step.specs.Step as chip_step
 use Rattle.chip_step.specs.Step.{ChipStep, IsAt, can_fetch, after_fetch}
 use Rattle.chip_step.specs.Event.{Event}
 use Rattle.target_law.specs.declared.nexus.Nexus.{Nexus}
-use Rattle.target_law.specs.Beginning.{target_took, took_where, begins}
 use Rattle.scsi_words.specs.declared.messages.kinds.Message.TheVariants as message
 use Rattle.scsi_words.specs.Messages.{message_code}
-use Rattle.target_law.specs.Calls.{is_free, link_phase, link_takes, link_took, target_acked, acked_by, Names, Other, message_of, is_identify}
-use Rattle.target_law.specs.Devices.{DeviceState, where_room, lie_within}
+use Rattle.target_law.specs.Calls.{Names, Other, message_of, is_identify}
 use Rattle.target_law.specs.Target as connection_state
 use Rattle.target_law.specs.Target.{ConnectionState, BusFree, RogueConnected, Target, linked}
-use Rattle.bus_law.specs.Attention.{acked, after_ack, device_acked}
-use Rattle.bus_law.specs.Bus.{BusState, device_at, device_of, no_device, free_if, with_device, link_on}
-use Rattle.bus_law.specs.Bytes.{after_byte_out, device_took}
-use Rattle.bus_law.specs.Choices.{turned_by, turned, after_turn}
+use Rattle.bus_law.specs.Bus.{BusState}
 use Rattle.bus_law.specs.Moves.{moves}
 use Rattle.bus_events.specs.Needs.{NeedsChoice, NeedsByte, NeedsMessage, NeedsGreeting, NeedsAck}
 use Rattle.bus_events.specs.Targets.{targets}
@@ -58,65 +53,26 @@ use Rattle.word_owners.proofs.Worlds.{words_are_owned}
 use Rattle.run_joined.specs.ChipCalls.{TicketBus, caused_by}
 use Rattle.run_joined.specs.JoinedRuns.{RunJoins, IsJoinedRun}
 use Rattle.chip_needs.specs.Ordinary.{ArePointed}
-use Rattle.chip_needs.specs.Sending.{IsRogueOrFree, NoneOfRules}
-use Rattle.chip_needs.specs.Greeting.{IsGreeted, is_behind_selection}
+use Rattle.chip_needs.specs.Sending.{NoneOfRules}
+use Rattle.chip_needs.specs.Greeting.{is_behind_selection}
 use Rattle.chip_needs.specs.MessageSteps.{MessageStepsJoin}
 use Rattle.chip_needs.proofs.Ordinary.{pointers-stand, run, runs, goes-on}
 use Rattle.chip_needs.proofs.Ordinary.{Found as OfRun}
 use Rattle.chip_needs.proofs.AfterSelection.{selections-are-greeted}
 use Rattle.chip_needs.proofs.Sending.{IsOfMove, call-so, needs-found, resets-none}
 use Rattle.chip_needs.proofs.SentCalls.{Finds, Sends, entry-sends}
+use Rattle.chip_needs.proofs.HeardBytes.{HaveHeard, greeted-heard, Stands, selects, breaks, stands, of-rules, link-is, ack-heard, turn-heard, takes-heard}
+use Rattle.target_law.specs.Bytes.{hears}
 
--- ---- a target that heard so many bytes of a message, or units that break the rules, or nothing
-abbrev pub HasHeard : ℕ → ConnectionState → Type 0
-HasHeard k (connection_state.Selected heard) = k ≤ 4 → length heard ≡ k
-HasHeard k (RogueConnected s n) = Unit {0}
-HasHeard k BusFree = Unit {0}
-HasHeard k l = ⊥
+-- ---- so many bytes
+abbrev counts : ℕ → List ℕ → Type 0
+counts k heard = k ≤ 4 → length heard ≡ k
 
-abbrev pub HaveHeard : ℕ → BusState → Type 0
-HaveHeard k b = (i : ℕ) → b.connected ≡ Some i → HasHeard k (targets b i).link
-
-of-rogue : (k : ℕ) (l : ConnectionState) → IsRogueOrFree l → HasHeard k l
-of-rogue k (RogueConnected s n) h = tt
-of-rogue k BusFree h = tt
-of-rogue k l h = absurd h
-
-pub greeted-heard : (l : ConnectionState) → IsGreeted l → HasHeard 0 l
-greeted-heard (connection_state.Selected heard) h = λ z. ap (λ (x : List ℕ). length x) h
-greeted-heard (RogueConnected s n) h = tt
-greeted-heard BusFree h = tt
-greeted-heard l h = absurd h
-
--- ---- what a call makes of a target that was selected
-room-heard : (k : ℕ) (b : Bool) (d : DeviceState) (t : Target) → HasHeard k d.target.link → HasHeard k t.link → HasHeard k (if b then record { target = t; rooms = d.rooms } else d).target.link
-room-heard k true d t h j = j
-room-heard k false d t h j = h
-
-device-heard : (k : ℕ) (b : BusState) (id : ℕ) (d : DeviceState) → HasHeard k d.target.link → HasHeard k (device_at (with_device b id d) id).target.link
-device-heard k b id d h = elim (cases_lt id (length b.devices)) [
-  | inl l ↦ subst (λ (x : DeviceState). HasHeard k x.target.link) (sym (get_or-set_same b.devices id d no_device l)) h
-  | inr l ↦ subst (λ (x : DeviceState). HasHeard k x.target.link) (sym (get_or_past (slice_set b.devices id d) id no_device (omega (arith, l, length-set b.devices id d)))) tt
-]
-
-becomes-heard : (k : ℕ) (f : Bool) (b : BusState) (id : ℕ) (d : DeviceState) → b.connected ≡ Some id → HasHeard k d.target.link → HaveHeard k (free_if f (with_device b id d))
-becomes-heard k true b id d e h i c = let z : None ≡ Some i = c in absurd cc
-becomes-heard k false b id d e h i c = let z : id ≡ i = same_Some id i (sym e ∙ c) in subst (λ (j : ℕ). HasHeard k (device_at (with_device b id d) j).target.link) z (device-heard k b id d h)
-
-module _ (heard : List ℕ) where
-  abbrev Heard : ConnectionState
-  Heard = connection_state.Selected heard
-
-  acked-heard : (k : ℕ) (d : DeviceState) (l : ConnectionState) → l ≡ Heard → HasHeard k l → d.target.link ≡ l → HasHeard k (acked_by l d.target).link
-  acked-heard k d (connection_state.Selected x) e h q = subst (HasHeard k) (sym q) h
-  acked-heard k d l e h q = absurd cc
-
-  out-heard : (live_at : Nexus → Option ℕ) (k : ℕ) (t : Target) (byte : ℕ) → t.link ≡ Heard → (k ≤ 4 → length heard ≡ k) → HasHeard (k + 1) (target_took live_at t byte).link
-  unfolding target_took
-  out-heard live_at k t byte e h =
-      subst (λ (l : ConnectionState). HasHeard (k + 1) (took_where live_at (link_takes l) t byte).link) (sym e)
-      (subst (λ (l : ConnectionState). HasHeard (k + 1) (begins live_at (linked t (link_took l byte))).link) (sym e)
-      (λ z. (let n : length heard ≡ k = h (omega (arith, z)) in let a : length (heard ++ byte ∷ []) ≡ length heard + 1 = length-append heard (byte ∷ []) in ap (λ (x : List ℕ). length x) (take_all 4 (heard ++ byte ∷ []) (omega (arith, a, n, z))) ∙ a ∙ ap (λ (x : ℕ). x + 1) n)))
+one-more : (k : ℕ) (heard : List ℕ) (byte : ℕ) → counts k heard → counts (k + 1) (hears heard byte)
+one-more k heard byte h z =
+    let n : length heard ≡ k = h (omega (arith, z)) in
+    let a : length (heard ++ byte ∷ []) ≡ length heard + 1 = length-append heard (byte ∷ []) in
+    ap (λ (x : List ℕ). length x) (take_all 4 (heard ++ byte ∷ []) (omega (arith, a, n, z))) ∙ a ∙ ap (λ (x : ℕ). x + 1) n
 
 -- ---- the message
 whole-message : (p : Plan) (i : ℕ) (ks : ℕ → Ticket) (heard : List ℕ) → length heard ≡ 3 → NeedsGreeting p i ks (message_of heard) × (is_reset (message_of heard) ≡ false)
@@ -132,53 +88,6 @@ whole-message p i ks (a ∷ b ∷ c ∷ d ∷ x) e = absurd (omega (arith, e))
 
 -- ---- each call of the move
 module _ (p : Plan) (units : List RigUnit) (live_at : ℕ → Nexus → Option ℕ) where
-  -- a target that was selected is connected, or no target that keeps the rules
-  pub data Stands (k : ℕ) (b : BusState) : Type 0 where
-    selects : (id : ℕ) (heard : List ℕ) → b.connected ≡ Some id → (targets b id).link ≡ connection_state.Selected heard → (k ≤ 4 → length heard ≡ k) → Stands k b
-    breaks : NoneOfRules b → Stands k b
-
-  stands-by : (k : ℕ) (b : BusState) (id : ℕ) (l : ConnectionState) → b.connected ≡ Some id → (targets b id).link ≡ l → HasHeard k l → Stands k b
-  stands-by k b id (connection_state.Selected heard) e q h = selects id heard e q h
-  stands-by k b id (RogueConnected s n) e q h = breaks (λ i c. subst (λ (j : ℕ). IsRogueOrFree (targets b j).link) (same_Some id i (sym e ∙ c)) (subst IsRogueOrFree (sym q) tt))
-  stands-by k b id BusFree e q h = breaks (λ i c. subst (λ (j : ℕ). IsRogueOrFree (targets b j).link) (same_Some id i (sym e ∙ c)) (subst IsRogueOrFree (sym q) tt))
-  stands-by k b id l e q h = absurd h
-
-  stands : (k : ℕ) (b : BusState) → HaveHeard k b → Stands k b
-  stands k b h = by b.connected refl
-    where
-      by : (o : Option ℕ) → b.connected ≡ o → Stands k b
-      by None e = breaks (λ i c. (let z : None ≡ Some i = sym e ∙ c in absurd cc))
-      by (Some id) e = stands-by k b id (targets b id).link e refl (h id e)
-
-  of-rules : (k : ℕ) (b : BusState) → NoneOfRules b → HaveHeard k b
-  of-rules k b h i c = of-rogue k (targets b i).link (h i c)
-
-  link-is : (b : BusState) (id : ℕ) (l : ConnectionState) → b.connected ≡ Some id → (targets b id).link ≡ l → link_on b ≡ l
-  link-is b id l e q = ap (λ (x : Option ℕ). (device_of b x).target.link) e ∙ q
-
-  -- ---- the target after it
-  ack-heard : (k : ℕ) (a : Bool) (b : BusState) (id : ℕ) (heard : List ℕ) → b.connected ≡ Some id → (targets b id).link ≡ connection_state.Selected heard → (k ≤ 4 → length heard ≡ k) → HaveHeard k (after_ack a b)
-  unfolding target_acked where_room
-  ack-heard k true b id heard e q h =
-      subst (λ (o : Option ℕ). HaveHeard k (record (acked o b) { ack = false })) (sym e)
-      (λ i c. (let d = device_at b id in
-      becomes-heard k (is_free (device_acked d).target.link) b id (device_acked d) e
-      (room-heard k (lie_within (target_acked d.target).units d.rooms) d (target_acked d.target) (subst (HasHeard k) (sym q) h) (acked-heard heard k d d.target.link q (subst (HasHeard k) (sym q) h) refl)) i c))
-  ack-heard k false b id heard e q h = λ i c. subst (λ (j : ℕ). HasHeard k (targets b j).link) (same_Some id i (sym e ∙ c)) (subst (HasHeard k) (sym q) h)
-
-  turn-heard : (k word : ℕ) (b : BusState) (id : ℕ) (heard : List ℕ) → b.connected ≡ Some id → (targets b id).link ≡ connection_state.Selected heard → (k ≤ 4 → length heard ≡ k) → HaveHeard k (after_turn b.connected word b)
-  turn-heard k word b id heard e q h =
-      subst (λ (o : Option ℕ). HaveHeard k (after_turn o word b)) (sym e)
-      (becomes-heard k (is_free (turned b.atn word (device_at b id)).target.link) b id (turned b.atn word (device_at b id)) e
-      (subst (λ (l : ConnectionState). HasHeard k (turned_by (link_phase l) b.atn word (device_at b id)).target.link) (sym q) (subst (HasHeard k) (sym q) h)))
-
-  takes-heard : (k byte : ℕ) (taken : Bool) (b : BusState) (id : ℕ) (heard : List ℕ) → b.connected ≡ Some id → (targets b id).link ≡ connection_state.Selected heard → (k ≤ 4 → length heard ≡ k) → taken ≡ link_takes (link_on b) → HaveHeard (k + 1) (after_byte_out live_at taken b.connected byte b)
-  takes-heard k byte taken b id heard e q h t =
-      let all : taken ≡ true = t ∙ ap link_takes (link-is b id (connection_state.Selected heard) e q) in
-      subst (λ (x : Bool). HaveHeard (k + 1) (after_byte_out live_at x b.connected byte b)) (sym all)
-      (subst (λ (o : Option ℕ). HaveHeard (k + 1) (after_byte_out live_at true o byte b)) (sym e)
-      (becomes-heard (k + 1) (is_free (device_took live_at id (device_at b id) byte).target.link) b id (device_took live_at id (device_at b id) byte) e (out-heard heard (live_at id) k (device_at b id).target byte q h)))
-
   -- ---- what it asks, and the target after it
   module _ (caused : ℕ → Bool) (word : ℕ) where
     abbrev Found : TicketBus → Event → Type 0
@@ -195,43 +104,43 @@ module _ (p : Plan) (units : List RigUnit) (live_at : ℕ → Nexus → Option �
     choice-found true heard = tt
     choice-found false heard = tt
 
-    acks-so : (u : TicketBus) (y : BusState) → Stands 0 u.bus → moves units live_at u.bus event.ClearAck y → Found u event.ClearAck × HaveHeard 0 y
-    acks-so u y (breaks n) m = (rogue-finds u event.ClearAck tt n, of-rules 0 y (call-so p units live_at event.ClearAck u.bus y tt m n))
+    acks-so : (u : TicketBus) (y : BusState) → Stands units live_at (counts 0) u.bus → moves units live_at u.bus event.ClearAck y → Found u event.ClearAck × HaveHeard (counts 0) y
+    acks-so u y (breaks n) m = (rogue-finds u event.ClearAck tt n, of-rules units live_at (counts 0) y (call-so p units live_at event.ClearAck u.bus y tt m n))
     acks-so u y (selects id heard e q h) m = (
       record { needs = one u.bus id (λ (i : ℕ). NeedsAck p i u.tickets (targets u.bus i).link) e (subst (NeedsAck p id u.tickets) (sym q) tt); resets = refl },
-      subst (HaveHeard 0) (sym m) (ack-heard 0 u.bus.ack u.bus id heard e q h),
+      subst (HaveHeard (counts 0)) (sym m) (ack-heard units live_at (counts 0) u.bus.ack u.bus id heard e q h),
     )
 
-    asks-so : (shown : Option BusPhase) (u : TicketBus) (y : BusState) → Stands 0 u.bus → moves units live_at u.bus (event.Phase word shown) y → Found u (event.Phase word shown) × HaveHeard 0 y
-    asks-so shown u y (breaks n) m = (rogue-finds u (event.Phase word shown) tt n, of-rules 0 y (call-so p units live_at (event.Phase word shown) u.bus y tt m n))
+    asks-so : (shown : Option BusPhase) (u : TicketBus) (y : BusState) → Stands units live_at (counts 0) u.bus → moves units live_at u.bus (event.Phase word shown) y → Found u (event.Phase word shown) × HaveHeard (counts 0) y
+    asks-so shown u y (breaks n) m = (rogue-finds u (event.Phase word shown) tt n, of-rules units live_at (counts 0) y (call-so p units live_at (event.Phase word shown) u.bus y tt m n))
     asks-so shown u y (selects id heard e q h) m = (
       record { needs = one u.bus id (λ (i : ℕ). NeedsChoice u.bus.atn (targets u.bus i).link) e (subst (NeedsChoice u.bus.atn) (sym q) (choice-found u.bus.atn heard)); resets = refl },
-      subst (HaveHeard 0) (sym m.1) (turn-heard 0 word u.bus id heard e q h),
+      subst (HaveHeard (counts 0)) (sym m.1) (turn-heard units live_at (counts 0) word u.bus id heard e q h),
     )
 
-    sends-so : (k byte : ℕ) (taken : Bool) (u : TicketBus) (y : BusState) → Stands k u.bus → moves units live_at u.bus (event.ByteOut byte taken) y → Found u (event.ByteOut byte taken) × HaveHeard (k + 1) y
-    sends-so k byte taken u y (breaks n) m = (rogue-finds u (event.ByteOut byte taken) tt n, of-rules (k + 1) y (call-so p units live_at (event.ByteOut byte taken) u.bus y tt m n))
+    sends-so : (k byte : ℕ) (taken : Bool) (u : TicketBus) (y : BusState) → Stands units live_at (counts k) u.bus → moves units live_at u.bus (event.ByteOut byte taken) y → Found u (event.ByteOut byte taken) × HaveHeard (counts (k + 1)) y
+    sends-so k byte taken u y (breaks n) m = (rogue-finds u (event.ByteOut byte taken) tt n, of-rules units live_at (counts (k + 1)) y (call-so p units live_at (event.ByteOut byte taken) u.bus y tt m n))
     sends-so k byte taken u y (selects id heard e q h) m = (
       record { needs = one u.bus id (λ (i : ℕ). NeedsByte p i u.tickets (targets u.bus i).link (live_at i) byte) e (subst (λ (l : ConnectionState). NeedsByte p id u.tickets l (live_at id) byte) (sym q) tt); resets = refl },
-      subst (HaveHeard (k + 1)) (sym m.1) (takes-heard k byte taken u.bus id heard e q h m.0),
+      subst (HaveHeard (counts (k + 1))) (sym m.1) (takes-heard units live_at (counts (k + 1)) byte taken u.bus id heard e q (one-more k heard byte h) m.0),
     )
 
-    ends-so : (u : TicketBus) → Stands 3 u.bus → Found u (event.SetAtn false)
+    ends-so : (u : TicketBus) → Stands units live_at (counts 3) u.bus → Found u (event.SetAtn false)
     ends-so u (breaks n) = rogue-finds u (event.SetAtn false) tt n
     ends-so u (selects id heard e q h) =
         let w = whole-message p id u.tickets heard (h (omega arith)) in
         record {
           needs = one u.bus id (λ (i : ℕ). NeedsMessage p i u.tickets (targets u.bus i).link) e (subst (NeedsMessage p id u.tickets) (sym q) w.0);
-          resets = ap link_resets (link-is u.bus id (connection_state.Selected heard) e q) ∙ w.1;
+          resets = ap link_resets (link-is units live_at u.bus id (connection_state.Selected heard) e q) ∙ w.1;
         }
 
     -- a message of three bytes
-    pub message-sends : Sends p units live_at caused word (λ k u. HaveHeard k u.bus) 3
+    pub message-sends : Sends p units live_at caused word (λ k u. HaveHeard (counts k) u.bus) 3
     message-sends = record {
-      acks = λ u y i m. acks-so u y (stands 0 u.bus i) m;
-      asks = λ s u y i m. asks-so s u y (stands 0 u.bus i) m;
-      sends = λ k byte taken u y i m. sends-so k byte taken u y (stands k u.bus i) m;
-      ends = λ u y i m. ends-so u (stands 3 u.bus i);
+      acks = λ u y i m. acks-so u y (stands units live_at (counts 0) u.bus i) m;
+      asks = λ s u y i m. asks-so s u y (stands units live_at (counts 0) u.bus i) m;
+      sends = λ k byte taken u y i m. sends-so k byte taken u y (stands units live_at (counts k) u.bus i) m;
+      ends = λ u y i m. ends-so u (stands units live_at (counts 3) u.bus i);
     }
 
 -- ---- the step
@@ -265,13 +174,13 @@ module _ (g : BenchSetting) (setting : IsBenchSetting g) (bytes : HasBytes g) (p
   before = record { bus = old.bus; tickets = ks; spare = j.spare }
 
   module _ (t : ℕ) (c : Counts) (h : Holds g.version g.units (Running (At080 t)) c old) where
-    by-move : IsAt (chip_of old) (op.MoveFrom (pos 0x20) 6) → Row (moves old.desk.units (live old.desk)) word (op.MoveFrom (pos 0x20) 6) (chip_of old) (after_fetch (chip_of old)) ran.end ran.chip → HaveHeard 0 old.bus → is_stopped old.regs ≡ false → can_fetch old.memory old.regs ≡ true → here
+    by-move : IsAt (chip_of old) (op.MoveFrom (pos 0x20) 6) → Row (moves old.desk.units (live old.desk)) word (op.MoveFrom (pos 0x20) 6) (chip_of old) (after_fetch (chip_of old)) ran.end ran.chip → HaveHeard (counts 0) old.bus → is_stopped old.regs ≡ false → can_fetch old.memory old.regs ≡ true → here
     by-move at d first f can =
-        let v = entry-sends p old.desk.units (live old.desk) (caused_by g old m) word (λ k u. HaveHeard k u.bus) 3 (message-sends p old.desk.units (live old.desk) (caused_by g old m) word)
+        let v = entry-sends p old.desk.units (live old.desk) (caused_by g old m) word (λ k u. HaveHeard (counts k) u.bus) 3 (message-sends p old.desk.units (live old.desk) (caused_by g old m) word)
         (place_of old.memory (after_fetch (chip_of old)).regs.dsa (pos 0x20) 8) 6 (after_fetch (chip_of old)) ran.end ran.chip before refl first refl (message-count g.version g.units c old t h) d in
         record { over_bus = v.0; steps = chip_step.does f can (op.MoveFrom (pos 0x20) 6) at v.1; same_bus = v.2 }
 
-    found-message : HaveHeard 0 old.bus → ChipStep (moves old.desk.units (live old.desk)) word (chip_of old) ran.end ran.chip → here
+    found-message : HaveHeard (counts 0) old.bus → ChipStep (moves old.desk.units (live old.desk)) word (chip_of old) ran.end ran.chip → here
     unfolding instruction
     found-message first (chip_step.does f q x at d) =
         by-move (stands_at g.version 16 (chip_of old) (chip_stands g.version g.units (At080 t) c old h 16 (omega arith) refl)) (row g.version g.units (At080 t) c old h m.after word m.reply ran 16 (op.MoveFrom (pos 0x20) 6) (omega arith) refl refl) first f q
@@ -280,7 +189,7 @@ module _ (g : BenchSetting) (setting : IsBenchSetting g) (bytes : HasBytes g) (p
     found-message first (chip_step.unspelled f q n h) = record { over_bus = before; steps = chip_step.unspelled f q n (record { ends = record { is = h.ends.is; memory_is = h.ends.memory_is; regs_are = h.ends.regs_are }; bus_is = refl }); same_bus = sym h.bus_is }
 
   -- the address tells the point
-  at-message : (x : Point) (c : Counts) → Holds g.version g.units (Running x) c old → (about x).place ≡ 0x080 → HaveHeard 0 old.bus → here
+  at-message : (x : Point) (c : Counts) → Holds g.version g.units (Running x) c old → (about x).place ≡ 0x080 → HaveHeard (counts 0) old.bus → here
   at-message (At080 t) c h q first = found-message t c h first ran.ran
   at-message (Moves t x) c h q first = (let high = move-high x.phase x.entry in absurd (omega (arith, q, high)))
   at-message (BehindContext t phase k) c h q first = (let high = move-high phase (Context k) in absurd (omega (arith, q, high)))
@@ -296,7 +205,7 @@ module _ (g : BenchSetting) (setting : IsBenchSetting g) (bytes : HasBytes g) (p
       let own = words_are_owned g setting bytes ms r in
       let k = running g.version g.units own.spot own.counts old (runs g setting bytes p ms m word r s e ks j a) own.holds in
       let greeted = selections-are-greeted g setting bytes ms r (runs g setting bytes p ms m word r s e ks j a) (ap is_behind_selection d) in
-      goes-on g setting bytes p ms m word r s e ks j a (at-message k.0 own.counts k.1 (sym k.1.stays.3 ∙ d) (λ i c. greeted-heard (targets old.bus i).link (greeted i c)))
+      goes-on g setting bytes p ms m word r s e ks j a (at-message k.0 own.counts k.1 (sym k.1.stays.3 ∙ d) (λ i c. greeted-heard (counts 0) (λ z. refl) (targets old.bus i).link (greeted i c)))
 
 pub message-steps-join : MessageStepsJoin
 message-steps-join g setting bytes p ms m word r s e d (ks, j) =

@@ -4,3 +4,4 @@ pub mod Ordinary
 pub mod Sending
 pub mod Greeting
 pub mod MessageSteps
+pub mod CommandNexus

@@ -1,6 +1,7 @@
 //! Laws of the calls that the chip makes. Each function does nothing; its contract is the law.
 
 ghost use Rattle.chip_needs.specs.Attention.{AttentionIsTold};
+ghost use Rattle.chip_needs.specs.CommandNexus.{CommandsFindNexus};
 ghost use Rattle.chip_needs.specs.Greeting.{GreetingsAreTold, SelectionsAreGreeted};
 ghost use Rattle.chip_needs.specs.MessageSteps.{MessageStepsJoin};
 ghost use Rattle.chip_needs.specs.Ordinary.{AcksFind, OrdinaryStepsJoin, PointersStand};
@@ -54,4 +55,10 @@ pub fn selections_are_greeted()
 /// A step of the chip that sends the message behind a selection leaves a run joined that was so, whatever is connected.
 pub fn message_steps_join()
     ensures { MessageStepsJoin }
+{}
+
+/// Behind the message, where the command goes out, the connected target takes it for the nexus of the ticket at the chip, and has none of its
+/// bytes yet; or it has the message still, or units are connected that break the rules, or nothing is.
+pub fn commands_find_nexus()
+    ensures { CommandsFindNexus }
 {}
