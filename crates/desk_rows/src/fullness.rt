@@ -1,9 +1,9 @@
 //! What Build refuses.
 
-use crate::stand::Stand;
+use crate::actions::{Action, Row, check};
 use cmd_block::ENDED;
 use desk_law::{Kind, Refused, Taken};
-use driver_desk::BuildFault;
+use rig_types::Outcome;
 use std::test::Fail;
 
 /// Three units; the first takes two tickets.
@@ -19,56 +19,24 @@ const SHORT: Refused = Refused::BadRequest(Kind::TooShort {
     has: 511,
 });
 
-/// A command, and why its ticket isn't built, None where it is.
-struct Row {
-    number: u32,
-    reason: Option<Refused>,
-}
-
-/// Commands in the order in which they are built.
-const ROWS: [Row; 7] = [
-    Row {
-        number: 0,
-        reason: Some(SHORT),
-    },
-    Row {
-        number: 1,
-        reason: Some(Refused::BadRequest(Kind::CdbLength)),
-    },
-    Row {
-        number: 2,
-        reason: Some(Refused::BadRequest(Kind::NoUnit)),
-    },
-    Row {
-        number: 3,
-        reason: None,
-    },
-    Row {
-        number: 3,
-        reason: None,
-    },
-    Row {
-        number: 3,
-        reason: Some(Refused::LunFull { depth: 2 }),
-    },
-    Row {
-        number: 0,
-        reason: Some(SHORT),
-    },
-];
+const REFUSALS: [Row<'static>; 1] = [Row {
+    name: "refusals",
+    rig: RIG,
+    work: WORK,
+    actions: &[
+        Action::Refuses(0, SHORT),
+        Action::Refuses(1, Refused::BadRequest(Kind::CdbLength)),
+        Action::Refuses(2, Refused::BadRequest(Kind::NoUnit)),
+        Action::Builds(3, 0),
+        Action::Builds(3, 1),
+        Action::Refuses(3, Refused::LunFull { depth: 2 }),
+        Action::Refuses(0, SHORT),
+    ],
+}];
 
 #[test]
 fn refusals(rt: HostRuntime) -> Result<(), Fail> {
-    let mut stand = Stand::open(&rt, rt.alloc(), RIG, WORK)?;
-    for row in &ROWS {
-        assert_eq!(rt;
-            stand.refused(&rt, row.number),
-            row.reason,
-            "command {}",
-            row.number
-        );
-    }
-    Ok(())
+    check(&rt, rt.alloc(), &REFUSALS)
 }
 
 /// One unit that takes 64 tickets, and reads of 128 blocks and of one.
@@ -77,22 +45,26 @@ const LARGE_RIG: &str = "version = 1\n[[unit]]\ntarget = 0\nlun = 0\nblocks = 25
 const LARGE_WORK: &str =
     "version = 1\n[[submitter]]\ncommand = [{ unit = 0, cdb = \"28000000000000008000\", segments = [65536], direction = \"in\" }, { unit = 0, cdb = \"28000000000000000100\", segments = [512], direction = \"in\" }]\n";
 
+/// A ticket that is freed makes room in a region that is full.
+const FULL_REGION: [Row<'static>; 1] = [Row {
+    name: "full region",
+    rig: LARGE_RIG,
+    work: LARGE_WORK,
+    actions: &[
+        Action::BuildsAll(0, 32),
+        Action::Refuses(1, Refused::RegionFull { len: 512 }),
+        Action::Links(5),
+        Action::Queues(5),
+        Action::Ends(5, ENDED, 0, 0),
+        Action::Takes(Taken::Ended(5)),
+        Action::Frees(5, (Outcome::Done, 0, 1, 65_536)),
+        Action::Builds(1, 32),
+    ],
+}];
+
 #[test]
 fn full_region(rt: HostRuntime) -> Result<(), Fail> {
-    let mut stand = Stand::open(&rt, rt.alloc(), LARGE_RIG, LARGE_WORK)?;
-    for t in 0..32u32 {
-        assert_eq!(rt; stand.build(&rt, 0), Ok(t));
-    }
-    let full = Refused::RegionFull { len: 512 };
-    assert_eq!(rt; stand.build(&rt, 1), Err(BuildFault::Refused(full)));
-    stand.link(&rt, 5);
-    stand.queue(&rt, 5);
-    stand.end(&rt, 5, ENDED, 0, 0);
-    assert_eq!(rt; stand.take_done(&rt), Taken::Ended(5));
-    let report = stand.free(&rt, 5);
-    assert_eq!(rt; report.ticket, 5);
-    assert_eq!(rt; stand.build(&rt, 1), Ok(32));
-    Ok(())
+    check(&rt, rt.alloc(), &FULL_REGION)
 }
 
 /// One unit that takes 256 tickets, and a command without data.
@@ -101,14 +73,18 @@ const DEEP_RIG: &str = "version = 2\n[[unit]]\ntarget = 0\nlun = 0\nblocks = 64\
 const TEST_UNIT_READY: &str =
     "version = 1\n[[submitter]]\ncommand = [{ unit = 0, cdb = \"000000000000\" }]\n";
 
+const FULL_UNIT: [Row<'static>; 1] = [Row {
+    name: "256 tickets",
+    rig: DEEP_RIG,
+    work: TEST_UNIT_READY,
+    actions: &[
+        Action::BuildsAll(0, 256),
+        Action::Names(0, 255, 255),
+        Action::Refuses(0, Refused::LunFull { depth: 256 }),
+    ],
+}];
+
 #[test]
 fn a_unit_of_256_tickets(rt: HostRuntime) -> Result<(), Fail> {
-    let mut stand = Stand::open(&rt, rt.alloc(), DEEP_RIG, TEST_UNIT_READY)?;
-    for t in 0..256u32 {
-        assert_eq!(rt; stand.build(&rt, 0), Ok(t));
-    }
-    assert_eq!(rt; stand.desk.ticket_of(0, 255), Some(255));
-    let full = Refused::LunFull { depth: 256 };
-    assert_eq!(rt; stand.build(&rt, 0), Err(BuildFault::Refused(full)));
-    Ok(())
+    check(&rt, rt.alloc(), &FULL_UNIT)
 }

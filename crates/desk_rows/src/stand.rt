@@ -1,136 +1,184 @@
-//! A desk with the memory and the registers that it works on. Each call is made only where its condition holds; else the
-//! test fails.
+//! A desk with the memory and the registers that it works on. Each call is made only where its condition holds; else it is
+//! answered that it can't be.
 
 use bench_words::Words;
 use chip_regs::Regs;
 use cmd_block::{Field, write};
-use desk_law::{Refused, Stage, Taken};
+use desk_law::{Stage, Taken};
 use driver_desk::{BuildFault, Desk};
 use driver_script::load;
-use rig_reader::read_rig;
-use rig_types::{Line, Report, Work};
-use std::alloc::Global;
+use rig_types::{Line, Report, Request, Rig, Work};
+use std::alloc::{AllocError, Global};
 use std::process::Abort;
-use std::test::Fail;
-use work_reader::read_work;
 
 /// The bytes of host memory.
 const MEMORY: u32 = 0x40_0000;
 /// More tickets or signals than a test makes.
 const MANY: u32 = 10_000;
 
-/// A desk, memory, the registers of the chip and the work whose commands are built.
+/// A desk, memory and the registers of the chip.
 #[derive(Drop)]
 pub struct Stand {
-    pub desk: Desk,
-    pub words: Words,
+    desk: Desk,
+    words: Words,
     regs: Regs,
-    work: Work,
+}
+
+/// The request of a command of submitter 0.
+fn request_of(work: &Work, number: u32) -> Option<&Request> {
+    let commands = work.submitters.as_slice().first()?;
+    let command = commands.as_slice().get(number as usize)?;
+    Some(&command.request)
 }
 
 impl Stand {
     /// A fresh desk over memory with the script.
-    pub fn open(rt: &impl Abort, alloc: Global, rig: &str, work: &str) -> Result<Stand, Fail> {
-        let Ok(rig) = read_rig(alloc, rig.as_bytes()) else {
-            panic!(rt; "the rig isn't read");
-        };
-        let Ok(work) = read_work(alloc, work.as_bytes(), &rig) else {
-            panic!(rt; "the work isn't read");
-        };
+    pub fn open(
+        rt: &impl Abort,
+        alloc: Global,
+        rig: &Rig,
+        work: &Work,
+    ) -> Result<Stand, AllocError> {
         let mut words = Words::new(alloc, MEMORY / 4)?;
         assert!(rt; words.len() == MEMORY && (rig.version == 1 || rig.version == 2));
         load(&mut words, rig.version);
-        let desk = Desk::open(alloc, &rig, &work)?;
         Ok(Stand {
-            desk,
+            desk: Desk::open(alloc, rig, work)?,
             words,
             regs: Regs::new(),
-            work,
         })
     }
 
-    /// Builds the ticket of a command of submitter 0.
-    pub fn build(&mut self, rt: &impl Abort, number: u32) -> Result<u32, BuildFault> {
-        assert!(rt; self.words.len() == MEMORY && self.desk.caller_count() > 3);
-        assert!(rt; self.desk.ticket_count() < MANY);
+    /// Builds the ticket of a command of submitter 0. None where there is no such command.
+    pub fn build(&mut self, work: &Work, number: u32) -> Option<Result<u32, BuildFault>> {
+        if self.words.len() != MEMORY
+            || self.desk.caller_count() <= 3
+            || self.desk.ticket_count() >= MANY
+        {
+            return None;
+        }
+        let request = request_of(work, number)?;
         let line = Line {
             submitter: 0,
             number,
         };
-        let work = &self.work;
-        let submitters = work.submitters.as_slice();
-        assert!(rt; submitters.len() > 0);
-        let commands = submitters[0].as_slice();
-        assert!(rt; (number as usize) < commands.len());
-        let request = &commands[number as usize].request;
-        self.desk.build(&mut self.words, line, request)
+        Some(self.desk.build(&mut self.words, line, request))
     }
 
-    /// Builds the ticket of a command, and tells why it is refused, None where it is built.
-    pub fn refused(&mut self, rt: &impl Abort, number: u32) -> Option<Refused> {
-        match self.build(rt, number) {
-            Ok(_) => None,
-            Err(BuildFault::Refused(reason)) => Some(reason),
-            Err(BuildFault::OutOfMemory) => panic!(rt; "memory is wanting"),
+    /// Links a ticket that was built.
+    pub fn link(&mut self, t: u32) -> bool {
+        if self.words.len() != MEMORY || t >= self.desk.ticket_count() {
+            return false;
         }
-    }
-
-    /// Links a ticket.
-    pub fn link(&mut self, rt: &impl Abort, t: u32) {
-        assert!(rt; self.words.len() == MEMORY && t < self.desk.ticket_count());
-        assert!(rt; matches!(self.desk.stage(t), Stage::Built));
+        if !matches!(self.desk.stage(t), Stage::Built) {
+            return false;
+        }
         self.desk.link(&mut self.words, t);
+        true
     }
 
     /// Queues a ticket that was linked.
-    pub fn queue(&mut self, rt: &impl Abort, t: u32) {
-        assert!(rt; self.words.len() == MEMORY && t < self.desk.ticket_count());
-        assert!(rt; matches!(self.desk.stage(t), Stage::Linked));
+    pub fn queue(&mut self, t: u32) -> bool {
+        if self.words.len() != MEMORY || t >= self.desk.ticket_count() {
+            return false;
+        }
+        if !matches!(self.desk.stage(t), Stage::Linked) {
+            return false;
+        }
         let caller = u32::from(self.desk.line(t).submitter);
-        assert!(rt; caller < self.desk.caller_count() && self.desk.due(caller) < MANY);
+        if caller >= self.desk.caller_count() || self.desk.due(caller) >= MANY {
+            return false;
+        }
         self.desk.queue(&mut self.words, t);
+        true
     }
 
     /// Queues a ticket that was refused, as the reaper does.
-    pub fn queue_again(&mut self, rt: &impl Abort, t: u32) {
-        assert!(rt; self.words.len() == MEMORY && t < self.desk.ticket_count());
-        assert!(rt; matches!(self.desk.stage(t), Stage::Again));
+    pub fn queue_again(&mut self, t: u32) -> bool {
+        if self.words.len() != MEMORY || t >= self.desk.ticket_count() {
+            return false;
+        }
+        if !matches!(self.desk.stage(t), Stage::Again) {
+            return false;
+        }
         let callers = self.desk.caller_count();
-        assert!(rt; callers > 3);
-        assert!(rt; self.desk.due(callers - 2) < MANY);
+        if callers <= 3 || self.desk.due(callers - 2) >= MANY {
+            return false;
+        }
         self.desk.queue(&mut self.words, t);
+        true
     }
 
-    /// Ends a ticket by these words, as the script does: its block goes into a done slot, so many slots behind the one that
-    /// is taken next. The done ring isn't gone round.
-    pub fn end(&mut self, rt: &impl Abort, t: u32, state: u32, status: u32, behind: u32) {
-        assert!(rt; self.words.len() == MEMORY && t < self.desk.ticket_count());
+    /// Writes STATE of a ticket's block, as the script does.
+    pub fn write_state(&mut self, t: u32, word: u32) -> bool {
+        if self.words.len() != MEMORY || t >= self.desk.ticket_count() {
+            return false;
+        }
         let block = self.desk.block(t);
-        write(&mut self.words, block, Field::State, state);
-        write(&mut self.words, block, Field::Status, status);
-        assert!(rt; behind < MANY);
-        let slot = self.desk.done_slot() + 8 * behind;
-        assert!(rt; slot % 4 == 0 && slot < MEMORY);
+        write(&mut self.words, block, Field::State, word);
+        true
+    }
+
+    /// Writes STATUS of a ticket's block, as the script does.
+    pub fn write_status(&mut self, t: u32, word: u32) -> bool {
+        if self.words.len() != MEMORY || t >= self.desk.ticket_count() {
+            return false;
+        }
+        let block = self.desk.block(t);
+        write(&mut self.words, block, Field::Status, word);
+        true
+    }
+
+    /// Puts a ticket's block into a done slot, as the script does: so many slots behind the one that is taken next. The done
+    /// ring isn't gone round.
+    pub fn put_done(&mut self, t: u32, behind: u32) -> bool {
+        if t >= self.desk.ticket_count() || behind >= MANY {
+            return false;
+        }
+        let block = self.desk.block(t);
+        let slot = self.desk.done_slot().saturating_add(8 * behind);
+        if slot % 4 != 0 || slot >= self.words.len() {
+            return false;
+        }
         self.words.set(slot, block);
+        true
     }
 
     /// Takes the ticket in the next done slot.
-    pub fn take_done(&mut self, rt: &impl Abort) -> Taken {
-        assert!(rt; self.words.len() == MEMORY);
-        assert!(rt;
-            self.desk
-                .ticket_at(self.words.get(self.desk.done_slot()))
-                .is_some()
-        );
-        self.desk.take_done(&mut self.words, &mut self.regs)
+    pub fn take_done(&mut self) -> Option<Taken> {
+        if self.words.len() != MEMORY {
+            return None;
+        }
+        self.desk.ticket_at(self.words.get(self.desk.done_slot()))?;
+        Some(self.desk.take_done(&mut self.words, &mut self.regs))
     }
 
     /// Unlinks and frees a ticket that ended.
-    pub fn free(&mut self, rt: &impl Abort, t: u32) -> Report {
-        assert!(rt; self.words.len() == MEMORY && t < self.desk.ticket_count());
-        assert!(rt; matches!(self.desk.stage(t), Stage::Ended(_)));
+    pub fn free(&mut self, t: u32) -> Option<Report> {
+        if self.words.len() != MEMORY || t >= self.desk.ticket_count() {
+            return None;
+        }
+        if !matches!(self.desk.stage(t), Stage::Ended(_)) {
+            return None;
+        }
         self.desk.unlink(&mut self.words, t);
-        assert!(rt; matches!(self.desk.stage(t), Stage::Unlinked));
-        self.desk.free(&self.words, t)
+        if !matches!(self.desk.stage(t), Stage::Unlinked) {
+            return None;
+        }
+        Some(self.desk.free(&self.words, t))
+    }
+
+    /// The word at an address of memory.
+    pub fn word(&self, address: u32) -> Option<u32> {
+        if address % 4 == 0 && address < self.words.len() {
+            Some(self.words.get(address))
+        } else {
+            None
+        }
+    }
+
+    /// The live ticket that has this tag of a unit.
+    pub fn ticket_of(&self, unit: u8, tag: u8) -> Option<u32> {
+        self.desk.ticket_of(unit, tag)
     }
 }

@@ -1,6 +1,6 @@
 //! Tickets that are refused, tickets without a target, and the order in which tickets are taken.
 
-use crate::stand::Stand;
+use crate::actions::{Action, Row, check};
 use cmd_block::{ENDED, NO_TARGET};
 use desk_law::Taken;
 use rig_types::Outcome;
@@ -18,67 +18,83 @@ const TWO_RETRIES: &str = "version = 1\nretries = 2\n[[unit]]\ntarget = 0\nlun =
 const WORK: &str =
     "version = 1\n[[submitter]]\n[[submitter.command]]\nunit = 0\ncdb = \"28000000000300000100\"\nsegments = [512]\ndirection = \"in\"\n";
 
-/// A rig, how each try of one ticket ends (STATE and status), and its report: outcome, status, tries and residual. No
-/// data move.
-struct Row<'a> {
-    rig: &'a str,
-    tries: &'a [(u32, u32)],
-    report: (Outcome, u8, u8, u32),
-}
-
-const ROWS: [Row<'static>; 3] = [
+/// One ticket to its report. No data move.
+const TRIES: [Row<'static>; 3] = [
     Row {
+        name: "no try left",
         rig: ONE_RETRY,
-        tries: &[(ENDED, QUEUE_FULL), (ENDED, QUEUE_FULL)],
-        report: (Outcome::Done, 0x28, 2, 512),
+        work: WORK,
+        actions: &[
+            Action::Builds(0, 0),
+            Action::Links(0),
+            Action::Queues(0),
+            Action::Ends(0, ENDED, QUEUE_FULL, 0),
+            Action::Takes(Taken::Again(0)),
+            Action::QueuesAgain(0),
+            Action::Ends(0, ENDED, QUEUE_FULL, 0),
+            Action::Takes(Taken::Ended(0)),
+            Action::Frees(0, (Outcome::Done, 0x28, 2, 512)),
+        ],
     },
     Row {
+        name: "one try left",
         rig: TWO_RETRIES,
-        tries: &[(ENDED, QUEUE_FULL), (ENDED, QUEUE_FULL), (ENDED, 0)],
-        report: (Outcome::Done, 0, 3, 512),
+        work: WORK,
+        actions: &[
+            Action::Builds(0, 0),
+            Action::Links(0),
+            Action::Queues(0),
+            Action::Ends(0, ENDED, QUEUE_FULL, 0),
+            Action::Takes(Taken::Again(0)),
+            Action::QueuesAgain(0),
+            Action::Ends(0, ENDED, QUEUE_FULL, 0),
+            Action::Takes(Taken::Again(0)),
+            Action::QueuesAgain(0),
+            Action::Ends(0, ENDED, 0, 0),
+            Action::Takes(Taken::Ended(0)),
+            Action::Frees(0, (Outcome::Done, 0, 3, 512)),
+        ],
     },
     Row {
+        name: "no target",
         rig: ONE_RETRY,
-        tries: &[(NO_TARGET, NO_STATUS)],
-        report: (Outcome::NoTarget, 0xff, 1, 512),
+        work: WORK,
+        actions: &[
+            Action::Builds(0, 0),
+            Action::Links(0),
+            Action::Queues(0),
+            Action::Ends(0, NO_TARGET, NO_STATUS, 0),
+            Action::Takes(Taken::Ended(0)),
+            Action::Frees(0, (Outcome::NoTarget, 0xff, 1, 512)),
+        ],
     },
 ];
 
 #[test]
 fn tries(rt: HostRuntime) -> Result<(), Fail> {
-    for row in &ROWS {
-        let mut stand = Stand::open(&rt, rt.alloc(), row.rig, WORK)?;
-        assert_eq!(rt; stand.build(&rt, 0), Ok(0));
-        stand.link(&rt, 0);
-        for (i, (state, status)) in row.tries.iter().enumerate() {
-            if i == 0 {
-                stand.queue(&rt, 0);
-            } else {
-                stand.queue_again(&rt, 0);
-            }
-            stand.end(&rt, 0, *state, *status, 0);
-            let _taken = stand.take_done(&rt);
-        }
-        let report = stand.free(&rt, 0);
-        assert_eq!(rt;
-            (report.outcome, report.status, report.tries, report.residual),
-            row.report
-        );
-    }
-    Ok(())
+    check(&rt, rt.alloc(), &TRIES)
 }
+
+/// The second ticket ends first, and is taken first.
+const ORDER: [Row<'static>; 1] = [Row {
+    name: "order",
+    rig: ONE_RETRY,
+    work: WORK,
+    actions: &[
+        Action::Builds(0, 0),
+        Action::Links(0),
+        Action::Queues(0),
+        Action::Builds(0, 1),
+        Action::Links(1),
+        Action::Queues(1),
+        Action::Ends(1, ENDED, 0, 0),
+        Action::Ends(0, ENDED, 0, 1),
+        Action::Takes(Taken::Ended(1)),
+        Action::Takes(Taken::Ended(0)),
+    ],
+}];
 
 #[test]
 fn order(rt: HostRuntime) -> Result<(), Fail> {
-    let mut stand = Stand::open(&rt, rt.alloc(), ONE_RETRY, WORK)?;
-    for t in 0..2u32 {
-        assert_eq!(rt; stand.build(&rt, 0), Ok(t));
-        stand.link(&rt, t);
-        stand.queue(&rt, t);
-    }
-    stand.end(&rt, 1, ENDED, 0, 0);
-    stand.end(&rt, 0, ENDED, 0, 1);
-    assert_eq!(rt; stand.take_done(&rt), Taken::Ended(1));
-    assert_eq!(rt; stand.take_done(&rt), Taken::Ended(0));
-    Ok(())
+    check(&rt, rt.alloc(), &ORDER)
 }
