@@ -13,7 +13,6 @@ use Rattle.std.proofs.Common.{arith, ◌≡◌, ◌⊎◌, inl, inr, ℕ, zero, 
 use Rattle.std.specs.Prelude.{◌-◌, ◌&&◌, slice_get}
 use Rattle.std.proofs.lemmas.Bool.{false≢true}
 use Rattle.std.proofs.lemmas.List.{append-nil, append_assoc, take_all, get_or-append-add}
-use Rattle.std.proofs.lemmas.Option.{same_Some}
 use Rattle.scsi_words.specs.declared.phases.kinds.Phase.{Phase as BusPhase}
 use Rattle.rig_types.specs.declared.rig.Unit.{Unit as RigUnit}
 use Rattle.bench_words.specs.Memory.{word_at, bytes_at}
@@ -99,6 +98,7 @@ use Rattle.run_joined.proofs.Rigs.{rig-stays}
 use Rattle.run_joined.proofs.Plans.{plans-exist}
 use Rattle.block_words.proofs.Commands.{commands-are-told}
 use Rattle.chip_needs.specs.CommandNexus.{nexus_by, nexus_for, TakesFor, CommandsFindNexus}
+use Rattle.chip_needs.proofs.MessageStep.{entry-at}
 use Rattle.chip_needs.proofs.HeardBytes.{room-so, becomes-so, HaveHeard, greeted-heard, Stands, selects, breaks, stands, of-rules, link-is, ack-heard, turn-heard, takes-heard}
 
 -- ---- the message makes a nexus, or frees the bus
@@ -226,15 +226,6 @@ module _ (p : Plan) (units : List RigUnit) (live_at : ℕ → Nexus → Option �
     entry-so None old end new f h d = ends-so n Bf old end new d
     entry-so (Some e) old end new f h d = block-so (loaded (word_at old.memory e % 16777216) (word_at old.memory (e + 4)) old) end new (f e refl).0 (f e refl).1 h d
 
--- ---- the entry of the message
-entry-at : (m : List ℕ) (base e : ℕ) → place_of m base (pos 0x20) 8 ≡ Some e → base + 0x20 ≡ e
-unfolding place_of
-entry-at m base e q = by (nat_le (base + 0x20 + 8) (length m)) q
-  where
-    by : (b : Bool) → (if b then Some (base + 0x20) else None) ≡ Some e → base + 0x20 ≡ e
-    by true z = same_Some (base + 0x20) e z
-    by false z = absurd cc
-
 -- ---- a step of the chip
 abbrev is_chip : Step → Bool
 is_chip (step.Chip word) = true
@@ -247,7 +238,7 @@ Takes w = w.stop ≡ stop.Run → w.regs.dsp ≡ 0x088 → (t : ℕ) → lives (
 pub record Serves (w : World) : Type 0 where
   pub takes : Takes w
 
-abbrev is_command : Point → Bool
+abbrev pub is_command : Point → Bool
 is_command (At088 t) = true
 is_command p = false
 
@@ -255,7 +246,7 @@ none-here : (d : ℕ) {b : Bool} → (d ≡ 0x088 → ⊥) → d ≡ 0x088 → b
 none-here d n e = absurd (n e)
 
 -- the address tells the point
-command-at : (p : Point) → (about p).place ≡ 0x088 → is_command p ≡ true
+pub command-at : (p : Point) → (about p).place ≡ 0x088 → is_command p ≡ true
 command-at (Moves t x) e = let high = move-high x.phase x.entry in absurd (omega (arith, e, high))
 command-at (BehindContext t phase k) e = let high = move-high phase (Context k) in absurd (omega (arith, e, high))
 command-at (LeavesContext t phase j k) e = let high = context-high phase k in absurd (omega (arith, e, high))
@@ -347,7 +338,7 @@ module _ (g : BenchSetting) (setting : IsBenchSetting g) (bytes : HasBytes g) (m
     entry-tells : (e : ℕ) → place_of w.memory (after_fetch (chip_of w)).regs.dsa (pos 0x20) 8 ≡ Some e → (word_at w.memory e % 16777216 ≡ 3) × (message_of (bytes_at w.memory (word_at w.memory (e + 4)) 3) ≡ Names (nexus_for w t))
     entry-tells e q =
         let b = (ticket w.desk t).block in
-        let x : b + 0x20 ≡ e = ap (λ (i : ℕ). i + 0x20) (sym here) ∙ entry-at w.memory w.regs.dsa e q in
+        let x : b + 0x20 ≡ e = ap (λ (i : ℕ). i + 0x20) (sym here) ∙ entry-at w.memory w.regs.dsa 0x20 e q in
         let count : word_at w.memory (b + 0x20) ≡ 3 = block-is.message.0 in
         let at : word_at w.memory (b + 0x24) ≡ b + 0xE0 = block-is.message.1 in
         let y : b + 0x24 ≡ e + 4 = omega (arith, x) in (

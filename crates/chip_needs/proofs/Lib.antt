@@ -11,3 +11,4 @@ pub mod AfterSelection
 pub mod HeardBytes
 pub mod MessageStep
 pub mod AfterMessage
+pub mod CommandStep

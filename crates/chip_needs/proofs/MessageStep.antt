@@ -1,5 +1,5 @@
 -- The step of the chip that sends the message behind a selection.
-use Rattle.std.proofs.Common.{arith, ◌≡◌, inl, inr, ℕ, pos, ◌+◌, ◌%◌, ◌≤◌, ◌==◌, nat_eq, nat_le, Bool, true, false, List, [], ◌∷◌, ◌++◌, length, length-append, Option, Some, None, refl, sym, ap, subst, ◌∙◌, if◌then◌else◌}
+use Rattle.std.proofs.Common.{arith, ◌≡◌, inl, inr, ℕ, pos, ◌+◌, ◌%◌, ◌≤◌, ◌==◌, nat_eq, nat_le, Bool, true, false, List, [], ◌∷◌, ◌++◌, length, length-append, slice_index, Option, Some, None, refl, sym, ap, subst, ◌∙◌, if◌then◌else◌}
 use Rattle.std.specs.Prelude.{◌-◌, ◌&&◌}
 use Rattle.std.proofs.lemmas.Bool.{false≢true}
 use Rattle.std.proofs.lemmas.List.{take_all}
@@ -89,7 +89,7 @@ whole-message p i ks (a ∷ b ∷ c ∷ d ∷ x) e = absurd (omega (arith, e))
 -- ---- each call of the move
 module _ (p : Plan) (units : List RigUnit) (live_at : ℕ → Nexus → Option ℕ) where
   -- ---- what it asks, and the target after it
-  module _ (caused : ℕ → Bool) (word : ℕ) where
+  module _ (caused : ℕ → Bool) (word : ℕ) (sent : ℕ → ℕ) where
     abbrev Found : TicketBus → Event → Type 0
     Found u e = Finds p units live_at caused word u e
 
@@ -104,25 +104,26 @@ module _ (p : Plan) (units : List RigUnit) (live_at : ℕ → Nexus → Option �
     choice-found true heard = tt
     choice-found false heard = tt
 
-    acks-so : (u : TicketBus) (y : BusState) → Stands units live_at (counts 0) u.bus → moves units live_at u.bus event.ClearAck y → Found u event.ClearAck × HaveHeard (counts 0) y
-    acks-so u y (breaks n) m = (rogue-finds u event.ClearAck tt n, of-rules units live_at (counts 0) y (call-so p units live_at event.ClearAck u.bus y tt m n))
-    acks-so u y (selects id heard e q h) m = (
+    pub acks-so : (P : List ℕ → Type 0) (u : TicketBus) (y : BusState) → Stands units live_at P u.bus → moves units live_at u.bus event.ClearAck y → Found u event.ClearAck × HaveHeard P y
+    acks-so P u y (breaks n) m = (rogue-finds u event.ClearAck tt n, of-rules units live_at P y (call-so p units live_at event.ClearAck u.bus y tt m n))
+    acks-so P u y (selects id heard e q h) m = (
       record { needs = one u.bus id (λ (i : ℕ). NeedsAck p i u.tickets (targets u.bus i).link) e (subst (NeedsAck p id u.tickets) (sym q) tt); resets = refl },
-      subst (HaveHeard (counts 0)) (sym m) (ack-heard units live_at (counts 0) u.bus.ack u.bus id heard e q h),
+      subst (HaveHeard P) (sym m) (ack-heard units live_at P u.bus.ack u.bus id heard e q h),
     )
 
-    asks-so : (shown : Option BusPhase) (u : TicketBus) (y : BusState) → Stands units live_at (counts 0) u.bus → moves units live_at u.bus (event.Phase word shown) y → Found u (event.Phase word shown) × HaveHeard (counts 0) y
-    asks-so shown u y (breaks n) m = (rogue-finds u (event.Phase word shown) tt n, of-rules units live_at (counts 0) y (call-so p units live_at (event.Phase word shown) u.bus y tt m n))
-    asks-so shown u y (selects id heard e q h) m = (
+    pub asks-so : (P : List ℕ → Type 0) (shown : Option BusPhase) (u : TicketBus) (y : BusState) → Stands units live_at P u.bus → moves units live_at u.bus (event.Phase word shown) y → Found u (event.Phase word shown) × HaveHeard P y
+    asks-so P shown u y (breaks n) m = (rogue-finds u (event.Phase word shown) tt n, of-rules units live_at P y (call-so p units live_at (event.Phase word shown) u.bus y tt m n))
+    asks-so P shown u y (selects id heard e q h) m = (
       record { needs = one u.bus id (λ (i : ℕ). NeedsChoice u.bus.atn (targets u.bus i).link) e (subst (NeedsChoice u.bus.atn) (sym q) (choice-found u.bus.atn heard)); resets = refl },
-      subst (HaveHeard (counts 0)) (sym m.1) (turn-heard units live_at (counts 0) word u.bus id heard e q h),
+      subst (HaveHeard P) (sym m.1) (turn-heard units live_at P word u.bus id heard e q h),
     )
 
-    sends-so : (k byte : ℕ) (taken : Bool) (u : TicketBus) (y : BusState) → Stands units live_at (counts k) u.bus → moves units live_at u.bus (event.ByteOut byte taken) y → Found u (event.ByteOut byte taken) × HaveHeard (counts (k + 1)) y
-    sends-so k byte taken u y (breaks n) m = (rogue-finds u (event.ByteOut byte taken) tt n, of-rules units live_at (counts (k + 1)) y (call-so p units live_at (event.ByteOut byte taken) u.bus y tt m n))
-    sends-so k byte taken u y (selects id heard e q h) m = (
+    pub sends-so : (P Q : List ℕ → Type 0) (byte : ℕ) (taken : Bool) (u : TicketBus) (y : BusState) → ((heard : List ℕ) → P heard → Q (hears heard byte)) → Stands units live_at P u.bus → moves units live_at u.bus (event.ByteOut byte taken) y
+        → Found u (event.ByteOut byte taken) × HaveHeard Q y
+    sends-so P Q byte taken u y f (breaks n) m = (rogue-finds u (event.ByteOut byte taken) tt n, of-rules units live_at Q y (call-so p units live_at (event.ByteOut byte taken) u.bus y tt m n))
+    sends-so P Q byte taken u y f (selects id heard e q h) m = (
       record { needs = one u.bus id (λ (i : ℕ). NeedsByte p i u.tickets (targets u.bus i).link (live_at i) byte) e (subst (λ (l : ConnectionState). NeedsByte p id u.tickets l (live_at id) byte) (sym q) tt); resets = refl },
-      subst (HaveHeard (counts (k + 1))) (sym m.1) (takes-heard units live_at (counts (k + 1)) byte taken u.bus id heard e q (one-more k heard byte h) m.0),
+      subst (HaveHeard Q) (sym m.1) (takes-heard units live_at Q byte taken u.bus id heard e q (f heard h) m.0),
     )
 
     ends-so : (u : TicketBus) → Stands units live_at (counts 3) u.bus → Found u (event.SetAtn false)
@@ -135,13 +136,22 @@ module _ (p : Plan) (units : List RigUnit) (live_at : ℕ → Nexus → Option �
         }
 
     -- a message of three bytes
-    pub message-sends : Sends p units live_at caused word (λ k u. HaveHeard (counts k) u.bus) 3
+    pub message-sends : Sends p units live_at caused word (λ k u. HaveHeard (counts k) u.bus) 6 sent 3
     message-sends = record {
-      acks = λ u y i m. acks-so u y (stands units live_at (counts 0) u.bus i) m;
-      asks = λ s u y i m. asks-so s u y (stands units live_at (counts 0) u.bus i) m;
-      sends = λ k byte taken u y i m. sends-so k byte taken u y (stands units live_at (counts k) u.bus i) m;
-      ends = λ u y i m. ends-so u (stands units live_at (counts 3) u.bus i);
+      acks = λ u y i m. acks-so (counts 0) u y (stands units live_at (counts 0) u.bus i) m;
+      asks = λ s u y i m. asks-so (counts 0) s u y (stands units live_at (counts 0) u.bus i) m;
+      sends = λ k byte taken u y b i m. sends-so (counts k) (counts (k + 1)) byte taken u y (λ heard h. one-more k heard byte h) (stands units live_at (counts k) u.bus i) m;
+      ends = λ q u y i m. ends-so u (stands units live_at (counts 3) u.bus i);
     }
+
+-- ---- the place of an entry of the table
+pub entry-at : (m : List ℕ) (base o e : ℕ) → place_of m base (pos o) 8 ≡ Some e → base + o ≡ e
+unfolding place_of
+entry-at m base o e q = by (nat_le (base + o + 8) (length m)) q
+  where
+    by : (b : Bool) → (if b then Some (base + o) else None) ≡ Some e → base + o ≡ e
+    by true z = same_Some (base + o) e z
+    by false z = absurd cc
 
 -- ---- the step
 active-lives : (s : Stage) → IsActive s → IsLive s
@@ -176,8 +186,10 @@ module _ (g : BenchSetting) (setting : IsBenchSetting g) (bytes : HasBytes g) (p
   module _ (t : ℕ) (c : Counts) (h : Holds g.version g.units (Running (At080 t)) c old) where
     by-move : IsAt (chip_of old) (op.MoveFrom (pos 0x20) 6) → Row (moves old.desk.units (live old.desk)) word (op.MoveFrom (pos 0x20) 6) (chip_of old) (after_fetch (chip_of old)) ran.end ran.chip → HaveHeard (counts 0) old.bus → is_stopped old.regs ≡ false → can_fetch old.memory old.regs ≡ true → here
     by-move at d first f can =
-        let v = entry-sends p old.desk.units (live old.desk) (caused_by g old m) word (λ k u. HaveHeard (counts k) u.bus) 3 (message-sends p old.desk.units (live old.desk) (caused_by g old m) word)
-        (place_of old.memory (after_fetch (chip_of old)).regs.dsa (pos 0x20) 8) 6 (after_fetch (chip_of old)) ran.end ran.chip before refl first refl (message-count g.version g.units c old t h) d in
+        let sent : ℕ → ℕ = λ i. slice_index old.memory (word_at old.memory (old.regs.dsa + 0x20 + 4) + i) in
+        let v = entry-sends p old.desk.units (live old.desk) (caused_by g old m) word (λ k u. HaveHeard (counts k) u.bus) 6 sent 3 (message-sends p old.desk.units (live old.desk) (caused_by g old m) word sent)
+        (place_of old.memory (after_fetch (chip_of old)).regs.dsa (pos 0x20) 8) (after_fetch (chip_of old)) ran.end ran.chip before
+        (λ x z i. ap (λ (b : ℕ). slice_index old.memory (word_at old.memory (b + 4) + i)) (sym (entry-at old.memory old.regs.dsa 0x20 x z))) refl first refl (message-count g.version g.units c old t h) d in
         record { over_bus = v.0; steps = chip_step.does f can (op.MoveFrom (pos 0x20) 6) at v.1; same_bus = v.2 }
 
     found-message : HaveHeard (counts 0) old.bus → ChipStep (moves old.desk.units (live old.desk)) word (chip_of old) ran.end ran.chip → here

@@ -1,5 +1,5 @@
 -- Steps of the chip where units that break the rules are connected, or nothing is.
-use Rattle.std.proofs.Common.{arith, ◌≡◌, inl, inr, ℕ, ℤ, ◌*◌, ◌%◌, ◌<◌, ◌||◌, nat_eq, Bool, true, false, List, [], ◌∷◌, ◌++◌, length, slice_index_or, slice_set, Option, Some, None, refl, sym, ap, subst, ◌∙◌, if◌then◌else◌}
+use Rattle.std.proofs.Common.{arith, ◌≡◌, inl, inr, ℕ, ℤ, ◌+◌, ◌*◌, ◌%◌, ◌<◌, ◌||◌, nat_eq, Bool, true, false, List, [], ◌∷◌, ◌++◌, length, slice_index, slice_index_or, slice_set, Option, Some, None, refl, sym, ap, subst, ◌∙◌, if◌then◌else◌}
 use Rattle.std.specs.Prelude.{not}
 use Rattle.std.proofs.lemmas.Bool.{false≢true, cases_lt}
 use Rattle.std.proofs.lemmas.Bool.Decides.{nat_tests}
@@ -215,16 +215,16 @@ module _ (p : Plan) (units : List RigUnit) (live_at : ℕ → Nexus → Option �
   resets-none (event.SetAtn false) b f h = link-so b.connected b refl h
   resets-none e b f h = absurd f
 
-  module _ (caused : ℕ → Bool) (word count : ℕ) where
+  module _ (caused : ℕ → Bool) (word ph : ℕ) (bytes : ℕ → ℕ) (count : ℕ) where
     finds-so : (u : TicketBus) (e : Event) → IsOfMove e → NoneOfRules u.bus → Finds p units live_at caused word u e
     finds-so u e f h = record { needs = needs-found e u.bus u.tickets f h; resets = resets-none e u.bus f h }
 
-    pub rogue-sends : Sends p units live_at caused word (λ k u. NoneOfRules u.bus) count
+    pub rogue-sends : Sends p units live_at caused word (λ k u. NoneOfRules u.bus) ph bytes count
     rogue-sends = record {
       acks = λ u y i m. (finds-so u event.ClearAck tt i, call-so event.ClearAck u.bus y tt m i);
       asks = λ s u y i m. (finds-so u (event.Phase word s) tt i, call-so (event.Phase word s) u.bus y tt m i);
-      sends = λ k byte taken u y i m. (finds-so u (event.ByteOut byte taken) tt i, call-so (event.ByteOut byte taken) u.bus y tt m i);
-      ends = λ u y i m. finds-so u (event.SetAtn false) tt i;
+      sends = λ k byte taken u y b i m. (finds-so u (event.ByteOut byte taken) tt i, call-so (event.ByteOut byte taken) u.bus y tt m i);
+      ends = λ q u y i m. finds-so u (event.SetAtn false) tt i;
     }
 
 -- ---- the step
@@ -268,21 +268,22 @@ module _ (g : BenchSetting) (setting : IsBenchSetting g) (bytes : HasBytes g) (p
   before = record { bus = old.bus; tickets = ks; spare = j.spare }
 
   -- a move that sends bytes, where each of its calls finds what it asks, for the count that it has
-  module _ (I : ℕ → TicketBus → Type 0) (first : I 0 before) (each : (count : ℕ) → Sends p old.desk.units (live old.desk) (caused_by g old m) word I count) where
+  module _ (I : ℕ → TicketBus → Type 0) (first : I 0 before) (each : (ph : ℕ) (sent : ℕ → ℕ) (count : ℕ) → Sends p old.desk.units (live old.desk) (caused_by g old m) word I ph sent count) where
     sent-from : (o : ℤ) (ph : ℕ) (place : Option ℕ) → place_of old.memory (after_fetch (chip_of old)).regs.dsa o 8 ≡ place → nat_eq (ph % 2) 1 ≡ false → is_stopped old.regs ≡ false → can_fetch old.memory old.regs ≡ true → IsAt (chip_of old) (op.MoveFrom o ph)
         → MovesBy (moves old.desk.units (live old.desk)) word (place_of old.memory (after_fetch (chip_of old)).regs.dsa o 8) ph (after_fetch (chip_of old)) ran.end ran.chip → here
     sent-from o ph None q even f can at d =
-        let v = entry-sends p old.desk.units (live old.desk) (caused_by g old m) word I 0 (each 0) (place_of old.memory (after_fetch (chip_of old)).regs.dsa o 8) ph (after_fetch (chip_of old)) ran.end ran.chip before refl first even (λ x z. (let y : None ≡ Some x = sym q ∙ z in absurd cc)) d in
+        let v = entry-sends p old.desk.units (live old.desk) (caused_by g old m) word I ph (λ i. 0) 0 (each ph (λ i. 0) 0) (place_of old.memory (after_fetch (chip_of old)).regs.dsa o 8) (after_fetch (chip_of old)) ran.end ran.chip before (λ x z. (let y : None ≡ Some x = sym q ∙ z in absurd cc)) refl first even (λ x z. (let y : None ≡ Some x = sym q ∙ z in absurd cc)) d in
         record { over_bus = v.0; steps = chip_step.does f can (op.MoveFrom o ph) at v.1; same_bus = v.2 }
     sent-from o ph (Some x) q even f can at d =
         let n = word_at old.memory x % 16777216 in
-        let v = entry-sends p old.desk.units (live old.desk) (caused_by g old m) word I n (each n) (place_of old.memory (after_fetch (chip_of old)).regs.dsa o 8) ph (after_fetch (chip_of old)) ran.end ran.chip before refl first even (λ y z. ap (λ (i : ℕ). word_at old.memory i % 16777216) (sym (same_Some x y (sym q ∙ z)))) d in
+        let sent : ℕ → ℕ = λ i. slice_index old.memory (word_at old.memory (x + 4) + i) in
+        let v = entry-sends p old.desk.units (live old.desk) (caused_by g old m) word I ph sent n (each ph sent n) (place_of old.memory (after_fetch (chip_of old)).regs.dsa o 8) (after_fetch (chip_of old)) ran.end ran.chip before (λ y z i. ap (λ (b : ℕ). slice_index old.memory (word_at old.memory (b + 4) + i)) (sym (same_Some x y (sym q ∙ z)))) refl first even (λ y z. ap (λ (i : ℕ). word_at old.memory i % 16777216) (sym (same_Some x y (sym q ∙ z)))) d in
         record { over_bus = v.0; steps = chip_step.does f can (op.MoveFrom o ph) at v.1; same_bus = v.2 }
 
     sent-by : (x : Op) → is_out x ≡ true → is_stopped old.regs ≡ false → can_fetch old.memory old.regs ≡ true → IsAt (chip_of old) x → Row (moves old.desk.units (live old.desk)) word x (chip_of old) (after_fetch (chip_of old)) ran.end ran.chip → here
     sent-by (op.MoveFrom o ph) q f can at d = sent-from o ph (place_of old.memory (after_fetch (chip_of old)).regs.dsa o 8) refl (not-so (nat_eq (ph % 2) 1) q) f can at d
     sent-by (op.Move n at_place ph) q f can at d =
-        let v = block-sends p old.desk.units (live old.desk) (caused_by g old m) word I n (each n) ph (loaded n at_place (after_fetch (chip_of old))) ran.end ran.chip before refl first (not-so (nat_eq (ph % 2) 1) q) refl d in
+        let v = block-sends p old.desk.units (live old.desk) (caused_by g old m) word I ph (λ i. slice_index old.memory (at_place + i)) n (each ph (λ i. slice_index old.memory (at_place + i)) n) (loaded n at_place (after_fetch (chip_of old))) ran.end ran.chip before (λ i. refl) refl first (not-so (nat_eq (ph % 2) 1) q) refl d in
         record { over_bus = v.0; steps = chip_step.does f can (op.Move n at_place ph) at v.1; same_bus = v.2 }
     sent-by x q f can at d = absurd (false≢true q)
 
@@ -299,14 +300,14 @@ module _ (g : BenchSetting) (setting : IsBenchSetting g) (bytes : HasBytes g) (p
       let dsp : old.regs.dsp ≡ 8 * i = k.1.stays.3 ∙ place in
       script-out i g.version l (ap goes_out (sym dsp) ∙ out))
 
-  pub sent-so : (I : ℕ → TicketBus → Type 0) → I 0 before → ((count : ℕ) → Sends p old.desk.units (live old.desk) (caused_by g old m) word I count) → goes_out old.regs.dsp ≡ true → ChipStep (moves old.desk.units (live old.desk)) word (chip_of old) ran.end ran.chip → here
+  pub sent-so : (I : ℕ → TicketBus → Type 0) → I 0 before → ((ph : ℕ) (sent : ℕ → ℕ) (count : ℕ) → Sends p old.desk.units (live old.desk) (caused_by g old m) word I ph sent count) → goes_out old.regs.dsp ≡ true → ChipStep (moves old.desk.units (live old.desk)) word (chip_of old) ran.end ran.chip → here
   sent-so I first each out (chip_step.does f q x at d) = sent-by I first each x (is-out out x at) f q at d
   sent-so I first each out (chip_step.idle f q n) = record { over_bus = before; steps = chip_step.idle f q (ap (λ (x : Chip BusState). over before x) n); same_bus = sym (ap (λ (x : Chip BusState). x.bus) n) }
   sent-so I first each out (chip_step.unfetched f q h) = record { over_bus = before; steps = chip_step.unfetched f q (record { ends = record { is = h.ends.is; memory_is = h.ends.memory_is; regs_are = h.ends.regs_are }; bus_is = refl }); same_bus = sym h.bus_is }
   sent-so I first each out (chip_step.unspelled f q n h) = record { over_bus = before; steps = chip_step.unspelled f q n (record { ends = record { is = h.ends.is; memory_is = h.ends.memory_is; regs_are = h.ends.regs_are }; bus_is = refl }); same_bus = sym h.bus_is }
 
   found-any : NoneOfRules old.bus → (b : Bool) → goes_out old.regs.dsp ≡ b → here
-  found-any n true out = sent-so (λ k u. NoneOfRules u.bus) n (λ count. rogue-sends p old.desk.units (live old.desk) (caused_by g old m) word count) out ran.ran
+  found-any n true out = sent-so (λ k u. NoneOfRules u.bus) n (λ ph sent count. rogue-sends p old.desk.units (live old.desk) (caused_by g old m) word ph sent count) out ran.ran
   found-any n false out = found-by g setting bytes p ms m word r s e ks j a out ran.ran
 
   pub rogue-joins : NoneOfRules old.bus → IsJoinedRun g p (ms ++ m ∷ [])

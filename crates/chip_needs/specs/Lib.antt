@@ -5,3 +5,4 @@ pub mod Sending
 pub mod Greeting
 pub mod MessageSteps
 pub mod CommandNexus
+pub mod CommandSteps

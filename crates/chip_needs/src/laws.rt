@@ -2,6 +2,7 @@
 
 ghost use Rattle.chip_needs.specs.Attention.{AttentionIsTold};
 ghost use Rattle.chip_needs.specs.CommandNexus.{CommandsFindNexus};
+ghost use Rattle.chip_needs.specs.CommandSteps.{CommandStepsJoin};
 ghost use Rattle.chip_needs.specs.Greeting.{GreetingsAreTold, SelectionsAreGreeted};
 ghost use Rattle.chip_needs.specs.MessageSteps.{MessageStepsJoin};
 ghost use Rattle.chip_needs.specs.Ordinary.{AcksFind, OrdinaryStepsJoin, PointersStand};
@@ -61,4 +62,9 @@ pub fn message_steps_join()
 /// bytes yet; or it has the message still, or units are connected that break the rules, or nothing is.
 pub fn commands_find_nexus()
     ensures { CommandsFindNexus }
+{}
+
+/// A step of the chip that sends the command leaves a run joined that was so, where the ticket whose block is at DSA is selected.
+pub fn command_steps_join()
+    ensures { CommandStepsJoin }
 {}

@@ -4,7 +4,7 @@
 mod laws;
 
 pub use laws::{
-    acks_find, attention_is_told, commands_find_nexus, greetings_are_told, message_steps_join,
-    ordinary_steps_join, pointers_stand, rogue_steps_join, selections_are_greeted,
-    statuses_are_told,
+    acks_find, attention_is_told, command_steps_join, commands_find_nexus, greetings_are_told,
+    message_steps_join, ordinary_steps_join, pointers_stand, rogue_steps_join,
+    selections_are_greeted, statuses_are_told,
 };
