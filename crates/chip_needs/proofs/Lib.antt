@@ -12,3 +12,4 @@ pub mod HeardBytes
 pub mod MessageStep
 pub mod AfterMessage
 pub mod CommandStep
+pub mod OwnMoves

@@ -135,7 +135,7 @@ module _ (g : BenchSetting) (p : Plan) (ms : List Moment) (ks : ℕ → Ticket) 
   kept = all-kept p (length g.units) ks (targets w.bus) reached
 
   -- with the pointers of one connected ticket written
-  written : (x lastp savep : ℕ) → (ks x).life ≡ Connected → RunJoins g p ms (with_at ks x (pointed_ticket (ks x) lastp savep))
+  pub written : (x lastp savep : ℕ) → (ks x).life ≡ Connected → RunJoins g p ms (with_at ks x (pointed_ticket (ks x) lastp savep))
   written x lastp savep e =
       let ns = with_at ks x (pointed_ticket (ks x) lastp savep) in
       let m : TicketMoves p (length g.units) ks (targets w.bus) ns (targets w.bus) = move.points x lastp savep e in

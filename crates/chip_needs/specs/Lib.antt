@@ -6,3 +6,4 @@ pub mod Greeting
 pub mod MessageSteps
 pub mod CommandNexus
 pub mod CommandSteps
+pub mod OwnMoves

@@ -6,6 +6,7 @@ ghost use Rattle.chip_needs.specs.CommandSteps.{CommandStepsJoin};
 ghost use Rattle.chip_needs.specs.Greeting.{GreetingsAreTold, SelectionsAreGreeted};
 ghost use Rattle.chip_needs.specs.MessageSteps.{MessageStepsJoin};
 ghost use Rattle.chip_needs.specs.Ordinary.{AcksFind, OrdinaryStepsJoin, PointersStand};
+ghost use Rattle.chip_needs.specs.OwnMoves.{OwnMovesStand};
 ghost use Rattle.chip_needs.specs.Sending.{RogueStepsJoin};
 ghost use Rattle.chip_needs.specs.ToldStatus.{StatusesAreTold};
 
@@ -67,4 +68,9 @@ pub fn commands_find_nexus()
 /// A step of the chip that sends the command leaves a run joined that was so, where the ticket whose block is at DSA is selected.
 pub fn command_steps_join()
     ensures { CommandStepsJoin }
+{}
+
+/// A joined run is joined with the tickets after the chip's own moves too: no call of the bus makes them, and no history tells of them.
+pub fn own_moves_stand()
+    ensures { OwnMovesStand }
 {}
