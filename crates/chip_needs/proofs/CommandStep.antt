@@ -1,4 +1,12 @@
 -- The step of the chip that sends the command behind a message.
+use Rattle.world_law.specs.declared.reply.Stop.TheVariants as stop
+use Rattle.ticket_fate.specs.Moves as move
+use Rattle.run_joined.specs.ChipCalls as own
+use Rattle.chip_needs.proofs.OwnMoves.{own-moves-stand}
+use Rattle.unit_law.proofs.Views.{with_at-same}
+use Rattle.unit_law.specs.Log.{with_at}
+use Rattle.ticket_fate.proofs.Reached.{units-run-their-logs}
+use Rattle.ticket_fate.specs.Moves.{TicketMove}
 use Rattle.rig_types.specs.declared.step.Step.TheVariants as step
 use Rattle.scripts_ops.specs.declared.values.Op.TheVariants as op
 use Rattle.chip_step.specs.Event as event
@@ -31,7 +39,7 @@ use Rattle.bus_law.specs.Moves.{moves}
 use Rattle.bus_events.specs.Needs.{IsToBegin, NeedsChoice, NeedsData, NeedsByte, NeedsAck}
 use Rattle.bus_events.specs.Targets.{targets}
 use Rattle.bus_events.specs.Tickets.{after_ack as ack_tickets, after_choice, after_taken}
-use Rattle.ticket_fate.specs.Tickets.{Plan, unit_of, Life, Selected, AskStarts, Ticket}
+use Rattle.ticket_fate.specs.Tickets.{Plan, unit_of, Life, Selected, AskStarts, Ticket, Waits, Asks, with_life, view_for}
 use Rattle.world_law.specs.ChipSteps.{chip_of, RunsChip}
 use Rattle.world_law.specs.Opening.{opened}
 use Rattle.world_law.specs.Runs.{Moment, Steps, IsRun, last}
@@ -86,10 +94,10 @@ use Rattle.bus_law.specs.Laws.{OneConnected}
 use Rattle.bus_events.proofs.TicketCalls.{free-is}
 use Rattle.desk_law.specs.Refusals.{faults, kind_of}
 use Rattle.sense_job.specs.Turning.{request_sense}
-use Rattle.run_joined.specs.DeskLives.{IsKept, IsStage}
+use Rattle.run_joined.specs.DeskLives.{IsKept, IsStage, IsChipStep}
 use Rattle.run_joined.specs.Plans.{IsPlanOf}
 use Rattle.block_words.specs.Commands.{HasCommand, command_by}
-use Rattle.chip_needs.specs.CommandSteps.{IsToStart, CommandStepsJoin}
+use Rattle.chip_needs.specs.CommandSteps.{IsToStart, CommandStepsJoin, IsToSelect}
 use Rattle.chip_needs.proofs.FreeCalls.{after}
 use Rattle.chip_needs.proofs.AfterMessage.{is_command, command-at, commands-find-nexus}
 
@@ -437,6 +445,22 @@ whole-size m a (suc k) e = sym (ap suc (bytes-size m (suc a) k)) ∙ same-number
 whole-is : (m : List ℕ) (a k : ℕ) (cdb : List ℕ) → bytes_at m a (length cdb) ≡ cdb → is_whole cdb ≡ true → is_whole (bytes_at m a k) ≡ true → bytes_at m a k ≡ cdb
 whole-is m a k cdb e w v = ap (bytes_at m a) (whole-size m a k v ∙ sym (whole-size m a (length cdb) (ap is_whole e ∙ w))) ∙ e
 
+-- the ticket is at the chip
+module _ (g : BenchSetting) (w : World) (at : w.regs.dsp ≡ 0x088) (t : ℕ) (alive : lives (ticket w.desk t) ≡ true) (dsa : w.regs.dsa ≡ (ticket w.desk t).block) where
+  its-point : (x : Point) (c : Counts) → Holds g.version g.units (Running x) c w → is_command x ≡ true → Holds g.version g.units (Running (At088 t)) c w
+  its-point (At088 y) c h q = by (y == t) refl
+    where
+      active-lives : IsLive (ticket w.desk y).stage
+      active-lives f = elim h.works.plays.begun.stage [
+        | inl a ↦ (let z : stage.Queued ≡ stage.Freed = sym a ∙ f in absurd cc)
+        | inr a ↦ (let z : stage.Sensing ≡ stage.Freed = sym a ∙ f in absurd cc)
+      ]
+
+      by : (b : Bool) → (y == t) ≡ b → Holds g.version g.units (Running (At088 t)) c w
+      by true z = subst (λ (i : ℕ). Holds g.version g.units (Running (At088 i)) c w) (same-number y t z) h
+      by false z = absurd (h.tickets.blocks y t active-lives (stage-lives w.desk t alive) (λ n. false≢true (sym z ∙ ap (λ (i : ℕ). i == t) n ∙ same-test t)) (sym h.stays.4.dsa ∙ dsa))
+  its-point x c h q = absurd (false≢true q)
+
 -- ---- the step
 module _ (g : BenchSetting) (setting : IsBenchSetting g) (bytes : HasBytes g) (p : Plan) (ms : List Moment) (m : Moment) (word : ℕ) (r : IsRun g (opened g) ms) (s : Steps g (last (opened g) ms) m) (e : m.entry.step ≡ step.Chip word) (ks : ℕ → Ticket) (j : RunJoins g p ms ks) (a : ArePointed ks (last (opened g) ms).bus) (plan : IsPlanOf g (last (opened g) ms) p) where
   abbrev old : World
@@ -594,25 +618,10 @@ module _ (g : BenchSetting) (setting : IsBenchSetting g) (bytes : HasBytes g) (p
   -- the address tells the point, and DSA the ticket
   module _ (at : old.regs.dsp ≡ 0x088) (t : ℕ) (alive : lives (ticket old.desk t) ≡ true) (dsa : old.regs.dsa ≡ (ticket old.desk t).block) (starts : IsToStart (ks t).life) where
     at-command : (x : Point) (c : Counts) → Holds g.version g.units (Running x) c old → is_command x ≡ true → here
-    at-command (At088 y) c h q = by (y == t) refl
-      where
-        active-lives : IsLive (ticket old.desk y).stage
-        active-lives f = elim h.works.plays.begun.stage [
-          | inl a ↦ (let z : stage.Queued ≡ stage.Freed = sym a ∙ f in absurd cc)
-          | inr a ↦ (let z : stage.Sensing ≡ stage.Freed = sym a ∙ f in absurd cc)
-        ]
-
-        for : y ≡ t → here
-        for z =
-            let alive-here : lives (ticket old.desk y) ≡ true = ap (λ (i : ℕ). lives (ticket old.desk i)) z ∙ alive in
-            let starts-now : IsToStart (ks y).life = subst (λ (i : ℕ). IsToStart (ks i).life) (sym z) starts in
-            let f = commands-find-nexus g setting bytes ms r (runs g setting bytes p ms m word r s e ks j a) at y alive-here h.stays.4.dsa in
-            found-command y c h alive-here starts-now (starts-here y c h alive-here starts-now f) ran.ran
-
-        by : (b : Bool) → (y == t) ≡ b → here
-        by true z = for (same-number y t z)
-        by false z = absurd (h.tickets.blocks y t active-lives (stage-lives old.desk t alive) (λ n. false≢true (sym z ∙ ap (λ (i : ℕ). i == t) n ∙ same-test t)) (sym h.stays.4.dsa ∙ dsa))
-    at-command x c h q = absurd (false≢true q)
+    at-command x c h q =
+        let y = its-point g old at t alive dsa x c h q in
+        let f = commands-find-nexus g setting bytes ms r (runs g setting bytes p ms m word r s e ks j a) at t alive dsa in
+        found-command t c y alive starts (starts-here t c y alive starts f) ran.ran
 
     pub command-joins : IsJoinedRun g p (ms ++ m ∷ [])
     command-joins =
@@ -636,8 +645,49 @@ none-pointed ks n b o f i = by (targets b i).link refl
     by (TaskConnected c) q = absurd (busy b.connected c refl q)
     by l q = tt
 
+-- a step of the chip gives a ticket this life
+abbrev TicketStep : Plan → ℕ → LogicalUnit → Ticket → Life → Type 0
+TicketStep p t u k l = (m : TicketMove p t (view_for p t u.log) k (with_life k l)) × IsChipStep m
+
+module _ (g : BenchSetting) (setting : IsBenchSetting g) (bytes : HasBytes g) (p : Plan) (ms : List Moment) (m : Moment) (word : ℕ) (r : IsRun g (opened g) ms) (s : Steps g (last (opened g) ms) m) (e : m.entry.step ≡ step.Chip word) (at : (last (opened g) ms).regs.dsp ≡ 0x088)
+    (plan : IsPlanOf g (last (opened g) ms) p) (t : ℕ) (alive : lives (ticket (last (opened g) ms).desk t) ≡ true) (dsa : (last (opened g) ms).regs.dsa ≡ (ticket (last (opened g) ms).desk t).block) where
+  abbrev now : World
+  now = last (opened g) ms
+
+  running-is : now.stop ≡ stop.Run
+  running-is = (subst (λ (x : Step). Enabled g now m.entry.caller x) e s.enabled).1
+
+  -- a ticket that is selected
+  selected-joins : (ks : ℕ → Ticket) → RunJoins g p ms ks → IsToStart (ks t).life → IsJoinedRun g p (ms ++ m ∷ [])
+  selected-joins ks j starts =
+      let f = commands-find-nexus g setting bytes ms r running-is at t alive dsa in
+      command-joins g setting bytes p ms m word r s e ks j (none-pointed ks (nexus_for now t) now.bus j.joined.tickets.connected f) plan at t alive dsa starts
+
+  -- one that waits for it is selected first
+  module _ (ks : ℕ → Ticket) (j : RunJoins g p ms ks) where
+    known : unit_of p t < length g.units
+    known = j.joined.tickets.reached.plan.known t
+
+    there-is : (p.units (unit_of p t)).absent ≡ false
+    there-is =
+        let own = words_are_owned g setting bytes ms r in
+        let k = running g.version g.units own.spot own.counts now running-is own.holds in
+        let h = its-point g now at t alive dsa k.0 own.counts k.1 (command-at k.0 (sym k.1.stays.3 ∙ at)) in
+        let x = (j.joined.desk.each t (within now.desk t alive)).unit_is in
+        let u : slice_index_or g.units (unit_of p t) no_unit ≡ p.units (unit_of p t) = get_or_from_slice_get g.units (unit_of p t) (p.units (unit_of p t)) no_unit (plan.units (unit_of p t) known) in
+        ap (λ (i : RigUnit). i.absent) (sym u) ∙ ap (λ (i : ℕ). (slice_index_or g.units i no_unit).absent) (sym x) ∙ ap (λ (us : List RigUnit). (slice_index_or us (ticket now.desk t).unit no_unit).absent) (sym h.units_are) ∙ h.works.plays.there
+
+    with-life-joins : (l : Life) → IsToStart l → ((u : LogicalUnit) → TicketStep p t u (ks t) l) → IsJoinedRun g p (ms ++ m ∷ [])
+    with-life-joins l i f =
+        let u = units-run-their-logs p (length g.units) ks (targets now.bus) j.joined.tickets.reached (unit_of p t) known in
+        let k = with_life (ks t) l in
+        let x = f u.0 in
+        selected-joins (with_at ks t k) (own-moves-stand g p ms ks (with_at ks t k) j (own.steps own.none t k u.0 u.1 x.0 x.1)) (subst (λ (y : Ticket). IsToStart y.life) (sym (with_at-same ks t k)) i)
+
+    to-select : (l : Life) → (ks t).life ≡ l → IsToSelect l (p.units (unit_of p t)).rogue → IsJoinedRun g p (ms ++ m ∷ [])
+    to-select Waits q i = with-life-joins Selected tt (λ u. (move.selects q there-is i, tt))
+    to-select Asks q i = with-life-joins AskStarts tt (λ u. (move.ask_selects q, tt))
+    to-select l q i = selected-joins ks j (subst IsToStart (sym q) i)
+
 pub command-steps-join : CommandStepsJoin
-command-steps-join g setting bytes p ms m word r s e at plan ks j t alive dsa starts =
-    let running_is = (subst (λ (x : Step). Enabled g (last (opened g) ms) m.entry.caller x) e s.enabled).1 in
-    let f = commands-find-nexus g setting bytes ms r running_is at t alive dsa in
-    command-joins g setting bytes p ms m word r s e ks j (none-pointed ks (nexus_for (last (opened g) ms) t) (last (opened g) ms).bus j.joined.tickets.connected f) plan at t alive dsa starts
+command-steps-join g setting bytes p ms m word r s e at plan ks j t alive dsa starts = to-select g setting bytes p ms m word r s e at plan t alive dsa ks j (ks t).life refl starts

@@ -65,7 +65,8 @@ pub fn commands_find_nexus()
     ensures { CommandsFindNexus }
 {}
 
-/// A step of the chip that sends the command leaves a run joined that was so, where the ticket whose block is at DSA is selected.
+/// A step of the chip that sends the command leaves a run joined that was so, where the ticket whose block is at DSA is selected or waits
+/// for it.
 pub fn command_steps_join()
     ensures { CommandStepsJoin }
 {}
