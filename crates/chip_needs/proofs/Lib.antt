@@ -13,3 +13,4 @@ pub mod MessageStep
 pub mod AfterMessage
 pub mod CommandStep
 pub mod OwnMoves
+pub mod WaitingTickets

@@ -7,3 +7,4 @@ pub mod MessageSteps
 pub mod CommandNexus
 pub mod CommandSteps
 pub mod OwnMoves
+pub mod WaitingTickets

@@ -9,6 +9,7 @@ ghost use Rattle.chip_needs.specs.Ordinary.{AcksFind, OrdinaryStepsJoin, Pointer
 ghost use Rattle.chip_needs.specs.OwnMoves.{OwnMovesStand};
 ghost use Rattle.chip_needs.specs.Sending.{RogueStepsJoin};
 ghost use Rattle.chip_needs.specs.ToldStatus.{StatusesAreTold};
+ghost use Rattle.chip_needs.specs.WaitingTickets.{WaitingTicketsStay};
 
 /// In every world of every run in which the chip runs, ATN is asserted only behind a selection, up to the message, and behind SET ATN
 /// of an abort.
@@ -74,4 +75,9 @@ pub fn command_steps_join()
 /// A joined run is joined with the tickets after the chip's own moves too: no call of the bus makes them, and no history tells of them.
 pub fn own_moves_stand()
     ensures { OwnMovesStand }
+{}
+
+/// A ticket that waits to be selected waits over every move but a step of its own, resets among them.
+pub fn waiting_tickets_stay()
+    ensures { WaitingTicketsStay }
 {}
