@@ -167,21 +167,54 @@ fn timed(
     }
 }
 
-/// Opens a desk and memory, and makes tickets while so many others live.
-fn part(rt: &HostRuntime, rig: &Rig, work: &Work, live: u32, count: Option<u32>) -> io::Result<()> {
+/// Lets a desk go. One call of its own, since a check proves anew wherever a desk is let go.
+fn close(_desk: Desk) {}
+
+/// Opens a desk over memory, and makes tickets while so many others live.
+fn part(
+    rt: &HostRuntime,
+    words: &mut Words,
+    rig: &Rig,
+    work: &Work,
+    live: u32,
+    count: Option<u32>,
+) -> io::Result<()>
+    requires memory { length words.old ≡ 0x400000 }
+{
     let Some(request) = request_of(work) else {
         return println!(rt; "desk: no request");
     };
     let mut desk = Desk::open(rt.alloc(), rig, work)?;
+    let done = timed(rt, &mut desk, words, request, live, count);
+    close(desk);
+    done
+}
+
+/// Makes tickets in fresh memory while so many others live.
+fn part_of_memory(
+    rt: &HostRuntime,
+    rig: &Rig,
+    work: &Work,
+    live: u32,
+    count: Option<u32>,
+) -> io::Result<()> {
     let mut words = Words::new(rt.alloc(), 0x10_0000)?;
     if words.len() == 0x40_0000 {
-        timed(rt, &mut desk, &mut words, request, live, count)
+        part(rt, &mut words, rig, work, live, count)
     } else {
         println!(rt; "desk: no memory")
     }
 }
 
 /// Makes tickets where none, 63 and 255 others live.
+fn parts(rt: &HostRuntime, rig: &Rig, work: &Work, count: Option<u32>) -> io::Result<()> {
+    for live in &LIVE {
+        part_of_memory(rt, rig, work, *live, count)?;
+    }
+    Ok(())
+}
+
+/// Reads the rig and the work, and makes tickets over them.
 pub fn desk(rt: &HostRuntime, count: Option<u32>) -> io::Result<()> {
     let alloc = rt.alloc();
     let Ok(rig) = read_rig(alloc, RIG) else {
@@ -190,8 +223,5 @@ pub fn desk(rt: &HostRuntime, count: Option<u32>) -> io::Result<()> {
     let Ok(work) = read_work(alloc, WORK, &rig) else {
         return println!(rt; "desk: no work");
     };
-    for live in &LIVE {
-        part(rt, &rig, &work, *live, count)?;
-    }
-    Ok(())
+    parts(rt, &rig, &work, count)
 }
