@@ -120,26 +120,20 @@ fn print(rt: &HostRuntime, times: &Times) -> io::Result<()> {
     Ok(())
 }
 
-/// Makes the serial run of so many commands, and tells how long it took.
-fn driven(rt: &HostRuntime, commands: u32) -> io::Result<(Bench, Duration)>
-    requires { commands ≤ 2000 }
-{
-    let bench = opened(rt.alloc(), commands)?;
-    let start = Instant::now(rt)?;
-    let bench = drive(bench, SEED)?;
-    let time = start.elapsed(rt)?;
-    Ok((bench, time))
-}
+/// Lets a bench go. One call of its own, since a check proves anew wherever a bench is let go.
+fn close(_bench: Bench) {}
 
 /// Makes these steps on a bench of so many commands, and times each.
 fn again(rt: &HostRuntime, commands: u32, entries: &[Entry]) -> io::Result<Times>
     requires { commands ≤ 2000 }
 {
     let mut bench = opened(rt.alloc(), commands)?;
-    timed(rt, &mut bench, entries)
+    let times = timed(rt, &mut bench, entries);
+    close(bench);
+    times
 }
 
-/// Prints how many steps a second a serial run makes, and then the same of its steps alone by their kind. Where no number
+/// Prints how many steps a second a serial run made, and then the same of its steps alone by their kind. Where no number
 /// is given, no time is printed.
 fn print_run(
     rt: &HostRuntime,
@@ -160,8 +154,30 @@ fn print_run(
     print(rt, &times)
 }
 
+/// Prints a serial run that was made since then.
+fn print_since(
+    rt: &HostRuntime,
+    bench: &Bench,
+    start: io::Result<Instant>,
+    count: Option<u32>,
+) -> io::Result<()> {
+    let time = start?.elapsed(rt)?;
+    print_run(rt, bench, time, count)
+}
+
+/// Makes the serial run of a bench, and prints how long it took.
+fn run(rt: &HostRuntime, bench: Bench, count: Option<u32>) -> io::Result<()>
+    requires { bench.entries ≡ [] }
+{
+    let start = Instant::now(rt);
+    let bench = drive(bench, SEED)?;
+    let printed = print_since(rt, &bench, start, count);
+    close(bench);
+    printed
+}
+
 /// Makes the serial run of so many commands, and prints how long it took.
 pub fn steps(rt: &HostRuntime, count: Option<u32>) -> io::Result<()> {
-    let (bench, time) = driven(rt, count.unwrap_or(FEW).min(MOST))?;
-    print_run(rt, &bench, time, count)
+    let bench = opened(rt.alloc(), count.unwrap_or(FEW).min(MOST))?;
+    run(rt, bench, count)
 }
