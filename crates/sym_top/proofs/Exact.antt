@@ -98,7 +98,7 @@ ends-by c files loads loads' r exit wanted own y is = record { only = λ same. (
         inl (is ∙ ap exit_of ((told_end c files told).refusal refusals.TooLong q y z (λ e. absurd cc) (not-memory wanted own q to)) ∙ to)
 
 -- a refusal that blames neither words nor counts
-record IsQuiet (r : Refusal) : Type 0 where
+pub record IsQuiet (r : Refusal) : Type 0 where
   pub usage : exit_of r ≢ exits.Usage
   pub read : exit_of r ≢ exits.ReadFault
   pub write : exit_of r ≢ exits.WriteFault

@@ -8,8 +8,8 @@ use Rattle.sym_top.specs.CommandLine.{Command, one, asm, list, step, replay, loa
 use Rattle.sym_top.specs.Jobs.{Job, Makes, Yields}
 use Rattle.sym_top.specs.Calls.{Sunk, ends, Finishes, Runs}
 
-same-shelf : (s m : Shelved) → IsKept s m → m ≡ s
-same-shelf s m k =
+pub same_shelf : (s m : Shelved) → IsKept s m → m ≡ s
+same_shelf s m k =
     let with_files : Option FilesByName → Shelved = λ x. record { files = x; loads = m.loads; stores = m.stores } in
     let with_loads : ℕ → Shelved = λ x. record { files = s.files; loads = x; stores = m.stores } in
     let with_stores : ℕ → Shelved = λ x. record { files = s.files; loads = s.loads; stores = x } in
@@ -36,4 +36,4 @@ finished c s t o o' job (Err refusals.TooLong) m h = absurd h
 
 pub finish_runs : (c : Command) (s m t : Shelved) (o o' : Sunk) (job : Job) (r : Result (Unit {0}) Refusal) → Makes c s.files job → IsKept s m → Finishes job (ends m t o o') r
     → Runs c (ends s t o o') r
-finish_runs c s m t o o' job r made k h = finished c s t o o' job r made (subst (λ (x : Shelved). Finishes job (ends x t o o') r) (same-shelf s m k) h)
+finish_runs c s m t o o' job r made k h = finished c s t o o' job r made (subst (λ (x : Shelved). Finishes job (ends x t o o') r) (same_shelf s m k) h)

@@ -8,5 +8,9 @@ pub mod SpelledWords
 pub mod Finishing
 pub mod ValidFiles
 pub mod Exact
+pub mod RunStages
+pub mod RunFinishing
+pub mod RunSpelling
+pub mod RunExact
 pub mod Buffers
 pub mod OneTexts

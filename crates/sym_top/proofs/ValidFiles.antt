@@ -30,22 +30,22 @@ use Rattle.sym_top.proofs.OneCause.{is_fault, one_file, plain_within, rig_within
 
 -- ---- valid files
 
-abbrev IsWantOrFull : Refusal → Type 0
+abbrev pub IsWantOrFull : Refusal → Type 0
 IsWantOrFull r = (r ≡ refusals.OutOfMemory) ⊎ (r ≡ refusals.StepLimit)
 
-then-valid : {A B : Type 0} (First : Result A Refusal → Type 0) (Next : A → Result B Refusal → Type 0) (x : A) → First (Ok x) → ((y : A) → First (Ok y) → y ≡ x) → OneEnd First
+pub then_valid : {A B : Type 0} (First : Result A Refusal → Type 0) (Next : A → Result B Refusal → Type 0) (x : A) → First (Ok x) → ((y : A) → First (Ok y) → y ≡ x) → OneEnd First
     → ((r : Refusal) → Next x (Err r) → IsWantOrFull r) → (r : Refusal) → Then First Next (Err r) → IsWantOrFull r
-then-valid First Next x f once first next r (inl h) = inl (first.either x r f h)
-then-valid {A} First Next x f once first next r (inr (z, g, k)) = next r (subst (λ (w : A). Next w (Err r)) (once z g) k)
+then_valid First Next x f once first next r (inl h) = inl (first.either x r f h)
+then_valid {A} First Next x f once first next r (inr (z, g, k)) = next r (subst (λ (w : A). Next w (Err r)) (once z g) k)
 
-wants : (r : Refusal) → WantsMemory r → IsWantOrFull r
-wants refusals.OutOfMemory h = inl refl
-wants refusals.Usage h = absurd h
-wants refusals.Read h = absurd h
-wants refusals.Write h = absurd h
-wants (refusals.Bad f) h = absurd h
-wants refusals.StepLimit h = absurd h
-wants refusals.TooLong h = absurd h
+pub only_wants : (r : Refusal) → WantsMemory r → IsWantOrFull r
+only_wants refusals.OutOfMemory h = inl refl
+only_wants refusals.Usage h = absurd h
+only_wants refusals.Read h = absurd h
+only_wants refusals.Write h = absurd h
+only_wants (refusals.Bad f) h = absurd h
+only_wants refusals.StepLimit h = absurd h
+only_wants refusals.TooLong h = absurd h
 
 fills : (Fills : Type 0) (r : Refusal) → RunRefuses Fills r → IsWantOrFull r
 fills Fills refusals.OutOfMemory h = inl refl
@@ -95,31 +95,31 @@ replays g lines a refusals.Write h = absurd h
 replays g lines a refusals.TooLong h = absurd h
 
 pub valid_ends : (c : Command) (files : Option FilesByName) (r : Refusal) → IsValid c files → Yields c files (Err r) → IsTold c files → IsWantOrFull r
-valid_ends (one lba) files r valid y told = wants r y
+valid_ends (one lba) files r valid y told = only_wants r y
 valid_ends (load count seed) files r valid y told = fills _ r y
 valid_ends (asm file out) None r valid y told = absurd cc
 valid_ends (list file) None r valid y told = absurd cc
 valid_ends (step rig work seed trace) None r valid y told = absurd cc
 valid_ends (replay rig work trace) None r valid y told = absurd cc
 valid_ends (asm file out) (Some held) r (source, is, image) y told =
-    then-valid (ReadsFile (Some held) file) (λ (s : List ℕ). AssemblyYields s out) source is (λ z g. (one_file held file).value z source g is)
+    then_valid (ReadsFile (Some held) file) (λ (s : List ℕ). AssemblyYields s out) source is (λ z g. (one_file held file).value z source g is)
     (reads_end file_limit held file (IsFile file_limit (Some held) file) NoFault (one_file held file) (plain_within (Some held) file)) (assembles source out image) r y
 valid_ends (list file) (Some held) r (image, is) y told =
-    then-valid (ReadsFile (Some held) file) ListingYields image is (λ z g. (one_file held file).value z image g is)
-    (reads_end file_limit held file (IsFile file_limit (Some held) file) NoFault (one_file held file) (plain_within (Some held) file)) wants r y
+    then_valid (ReadsFile (Some held) file) ListingYields image is (λ z g. (one_file held file).value z image g is)
+    (reads_end file_limit held file (IsFile file_limit (Some held) file) NoFault (one_file held file) (plain_within (Some held) file)) only_wants r y
 valid_ends (step rig work seed trace) (Some held) r (x, w, is, there) y told =
-    then-valid (ReadsRig (Some held) rig) (λ (q : Rig). Then (ReadsWork (Some held) work) (λ (v : Work). StepYields (setting_of q v) seed trace)) x is (λ z g. (one_rig held rig).value z x g is)
+    then_valid (ReadsRig (Some held) rig) (λ (q : Rig). Then (ReadsWork (Some held) work) (λ (v : Work). StepYields (setting_of q v) seed trace)) x is (λ z g. (one_rig held rig).value z x g is)
     (reads_end file_limit held rig (HasRig (Some held) rig) (RigFails (Some held) rig) (one_rig held rig) (rig_within (Some held) rig))
-    (then-valid (ReadsWork (Some held) work) (λ (v : Work). StepYields (setting_of x v) seed trace) w there (λ z g. (one_work held work).value z w g there)
+    (then_valid (ReadsWork (Some held) work) (λ (v : Work). StepYields (setting_of x v) seed trace) w there (λ z g. (one_work held work).value z w g there)
     (reads_end file_limit held work (HasWork (Some held) work) (WorkFails (Some held) work) (one_work held work) (work_within (Some held) work)) (fills _))
     r y
 valid_ends (replay rig work trace) (Some held) r (x, w, lines, is, there, told_lines, accepted) y told =
-    then-valid (ReadsRig (Some held) rig) (λ (q : Rig). Then (ReadsWork (Some held) work) (λ (v : Work). Then (ReadsTrace q.version (Some held) trace) (ReplayYields (setting_of q v)))) x is
+    then_valid (ReadsRig (Some held) rig) (λ (q : Rig). Then (ReadsWork (Some held) work) (λ (v : Work). Then (ReadsTrace q.version (Some held) trace) (ReplayYields (setting_of q v)))) x is
     (λ z g. (one_rig held rig).value z x g is)
     (reads_end file_limit held rig (HasRig (Some held) rig) (RigFails (Some held) rig) (one_rig held rig) (rig_within (Some held) rig))
-    (then-valid (ReadsWork (Some held) work) (λ (v : Work). Then (ReadsTrace x.version (Some held) trace) (ReplayYields (setting_of x v))) w there (λ z g. (one_work held work).value z w g there)
+    (then_valid (ReadsWork (Some held) work) (λ (v : Work). Then (ReadsTrace x.version (Some held) trace) (ReplayYields (setting_of x v))) w there (λ z g. (one_work held work).value z w g there)
     (reads_end file_limit held work (HasWork (Some held) work) (WorkFails (Some held) work) (one_work held work) (work_within (Some held) work))
-    (then-valid (ReadsTrace x.version (Some held) trace) (ReplayYields (setting_of x w)) lines told_lines (λ z g. (one_trace x.version held trace).value z lines g told_lines)
+    (then_valid (ReadsTrace x.version (Some held) trace) (ReplayYields (setting_of x w)) lines told_lines (λ z g. (one_trace x.version held trace).value z lines g told_lines)
     (reads_end trace_limit held trace (HasTrace x.version (Some held) trace) (TraceFails x.version (Some held) trace) (one_trace x.version held trace) (trace_within x.version (Some held) trace))
     (replays (setting_of x w) lines accepted)))
     r y
@@ -147,10 +147,10 @@ reads-long limit held name Has Fails within long refusals.Read h = absurd h
 reads-long limit held name Has Fails within long refusals.Write h = absurd h
 reads-long limit held name Has Fails within long refusals.StepLimit h = absurd h
 
-then-long : {A B : Type 0} (limit : ℕ) (held : FilesByName) (name : List ℕ) (Has : A → Type 0) (Fails : Fault → Type 0) (Next : A → Result B Refusal → Type 0) → AreWithin limit (Some held) name Has Fails
+pub then_long : {A B : Type 0} (limit : ℕ) (held : FilesByName) (name : List ℕ) (Has : A → Type 0) (Fails : Fault → Type 0) (Next : A → Result B Refusal → Type 0) → AreWithin limit (Some held) name Has Fails
     → ExceedsLimit limit (Some held) name → (r : Refusal) → Then (Reads limit (Some held) name Has Fails) Next (Err r) → r ≡ refusals.TooLong
-then-long limit held name Has Fails Next within long r (inl h) = reads-long limit held name Has Fails within long r h
-then-long limit held name Has Fails Next within long r (inr (x, g, k)) = absurd (not_long limit held name (within.value x g) long)
+then_long limit held name Has Fails Next within long r (inl h) = reads-long limit held name Has Fails within long r h
+then_long limit held name Has Fails Next within long r (inr (x, g, k)) = absurd (not_long limit held name (within.value x g) long)
 
 pub long_ends : (c : Command) (files : Option FilesByName) (r : Refusal) → IsFirstLong c files → Yields c files (Err r) → IsTold c files → r ≡ refusals.TooLong
 long_ends (one lba) files r long y told = absurd long
@@ -160,14 +160,14 @@ long_ends (list file) None r long y told = absurd cc
 long_ends (step rig work seed trace) None r long y told = absurd cc
 long_ends (replay rig work trace) None r long y told = absurd cc
 long_ends (asm file out) (Some held) r long y told =
-    then-long file_limit held file (IsFile file_limit (Some held) file) NoFault (λ (s : List ℕ). AssemblyYields s out) (plain_within (Some held) file) long r y
+    then_long file_limit held file (IsFile file_limit (Some held) file) NoFault (λ (s : List ℕ). AssemblyYields s out) (plain_within (Some held) file) long r y
 long_ends (list file) (Some held) r long y told =
-    then-long file_limit held file (IsFile file_limit (Some held) file) NoFault ListingYields (plain_within (Some held) file) long r y
+    then_long file_limit held file (IsFile file_limit (Some held) file) NoFault ListingYields (plain_within (Some held) file) long r y
 long_ends (step rig work seed trace) (Some held) r long y told =
-    then-long file_limit held rig (HasRig (Some held) rig) (RigFails (Some held) rig) (λ (q : Rig). Then (ReadsWork (Some held) work) (λ (v : Work). StepYields (setting_of q v) seed trace))
+    then_long file_limit held rig (HasRig (Some held) rig) (RigFails (Some held) rig) (λ (q : Rig). Then (ReadsWork (Some held) work) (λ (v : Work). StepYields (setting_of q v) seed trace))
     (rig_within (Some held) rig) long r y
 long_ends (replay rig work trace) (Some held) r long y told =
-    then-long file_limit held rig (HasRig (Some held) rig) (RigFails (Some held) rig)
+    then_long file_limit held rig (HasRig (Some held) rig) (RigFails (Some held) rig)
     (λ (q : Rig). Then (ReadsWork (Some held) work) (λ (v : Work). Then (ReadsTrace q.version (Some held) trace) (ReplayYields (setting_of q v)))) (rig_within (Some held) rig) long r y
 
 pub long_made : (c : Command) (files : Option FilesByName) (job : Job) → IsFirstLong c files → Makes c files job → IsTold c files → ⊥

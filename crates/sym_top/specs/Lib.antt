@@ -5,4 +5,7 @@ pub mod CommandLine
 pub mod OneText
 pub mod Jobs
 pub mod Making
+pub mod RunAsked
+pub mod RunCalls
+pub mod Running
 pub mod Stages

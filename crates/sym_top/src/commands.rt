@@ -43,7 +43,7 @@ pub enum Command<'a> {
 }
 
 /// Whether a word is this text.
-fn is_word(word: &Text, text: &str) -> bool
+pub(crate) fn is_word(word: &Text, text: &str) -> bool
     ensures { IsTrue result ↔ (word.now ≡ text.now) }
 {
     word.as_str() == text

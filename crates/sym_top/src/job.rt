@@ -56,7 +56,7 @@ pub fn finish<F: Shelf, O: Sink>(job: &Job<'_>, shelf: &mut F, out: &mut O) -> R
     }
 }
 
-fn store<F: Shelf>(output: &Output<'_>, shelf: &mut F) -> Result<(), Refusal>
+pub(crate) fn store<F: Shelf>(output: &Output<'_>, shelf: &mut F) -> Result<(), Refusal>
     ensures { Stores output.now (shelved (F.files shelf.old) (F.load_faults shelf.old) (F.store_faults shelf.old)) (shelved (F.files shelf.new) (F.load_faults shelf.new) (F.store_faults shelf.new)) result }
 {
     match shelf.store(output.name, output.bytes.as_slice()) {

@@ -1,7 +1,7 @@
 //! The commands of the program.
 #![tactic(auto)]
 
-mod answer;
+mod alone;
 mod commands;
 mod job;
 mod laws;
@@ -9,11 +9,15 @@ mod load_numbers;
 mod making;
 mod numbers;
 mod one;
+mod pool_job;
+mod run_command;
 mod running;
+mod top;
 mod words;
 
-pub use answer::answer_alone;
+pub use alone::answer_alone;
 pub use laws::one_cause;
 pub use refusal_lines::Exit;
 pub use straight_run::{Straight, straight};
+pub use top::answer;
 pub use words::{refuse_words, words_of};

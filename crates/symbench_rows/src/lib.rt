@@ -6,6 +6,8 @@ mod files;
 #[cfg(test)]
 mod one;
 #[cfg(test)]
+mod pool;
+#[cfg(test)]
 mod runs;
 #[cfg(test)]
 mod world;

@@ -9,10 +9,10 @@ use sym_io::{File, Files, MemoryShelf};
 use sym_top::Exit;
 
 /// One unit of 64 blocks; the list may have as many steps as the bound of one READ says.
-const RIG: &str =
+pub const RIG: &str =
     "version = 1\nstep_limit = 4352\n[[unit]]\ntarget = 0\nlun = 0\nblocks = 64\npattern = \"count\"\n";
 /// One READ(10) of block 3.
-const READ: &str =
+pub const READ: &str =
     "version = 1\n[[submitter]]\n[[submitter.command]]\nunit = 0\ncdb = \"28000000000300000100\"\nsegments = [512]\ndirection = \"in\"\n";
 /// A READ(10) with a segment too short, one with a descriptor block too short, and one of no unit.
 const REFUSED: &str =
@@ -85,13 +85,24 @@ fn file(alloc: Global, name: &str, text: &str) -> Result<File, AllocError> {
     })
 }
 
-fn shelf_of(alloc: Global, case: &Case<'_>) -> Result<MemoryShelf, AllocError> {
+/// A shelf of a rig, a work and a trace, whose calls of these numbers, counted from 1, fail.
+pub fn shelf_of_texts(
+    alloc: Global,
+    rig: &str,
+    work: &str,
+    trace: &str,
+    failing: &[u32],
+) -> Result<MemoryShelf, AllocError> {
     let mut files = Vec::new(alloc);
-    files.push(file(alloc, "rig", case.rig)?)?;
-    files.push(file(alloc, "work", case.work)?)?;
-    files.push(file(alloc, "trace", case.trace)?)?;
-    let failing = Counts::of(case.failing.to_vec(alloc)?);
+    files.push(file(alloc, "rig", rig)?)?;
+    files.push(file(alloc, "work", work)?)?;
+    files.push(file(alloc, "trace", trace)?)?;
+    let failing = Counts::of(failing.to_vec(alloc)?);
     Ok(MemoryShelf::new(Files::of(files), failing))
+}
+
+fn shelf_of(alloc: Global, case: &Case<'_>) -> Result<MemoryShelf, AllocError> {
+    shelf_of_texts(alloc, case.rig, case.work, case.trace, case.failing)
 }
 
 /// Runs a case that is refused, and asserts its status and its line; nothing is printed or stored.

@@ -2,10 +2,13 @@
 
 ghost use Rattle.std.specs.Prelude.{◌<◌};
 
-use scsi_words::Counts;
+use bench_pool::NoGate;
+use scsi_words::{Counts, Text};
 use std::alloc::{AllocError, Global};
+use std::sync::Wait;
+use std::thread::Threads;
 use sym_io::{Files, MemorySink, QuietShelf, Shelf};
-use sym_top::{Exit, answer_alone, words_of};
+use sym_top::{Exit, answer, answer_alone, words_of};
 
 /// How a sink behaves: the most bytes of one write, and the calls, counted from 1, that fail.
 #[derive(Clone, Copy)]
@@ -37,6 +40,38 @@ fn sink(alloc: Global, how: Sinking) -> Result<MemorySink, AllocError> {
     MemorySink::new(alloc, 0x1_0000, how.most, Counts::of(failing))
 }
 
+/// The words behind the name of the program.
+fn texts_of(alloc: Global, words: &[&str]) -> Result<Vec<Text>, AllocError> {
+    let mut args = Vec::new(alloc);
+    args.push(String::from_str(alloc, "symbench")?)?;
+    for word in words {
+        args.push(String::from_str(alloc, word)?)?;
+    }
+    words_of(alloc, args.into_iter())
+}
+
+/// Runs a command of these words over a shelf, all callers of a bench beside each other.
+pub fn run_beside<R: Threads + Wait + Sync, F: Shelf>(
+    rt: &R,
+    alloc: Global,
+    words: &[&str],
+    shelf: &mut F,
+) -> Result<Ending, AllocError> {
+    let words = texts_of(alloc, words)?;
+    let mut out = sink(alloc, WHOLE)?;
+    let mut err = sink(alloc, WHOLE)?;
+    let exit = answer(
+        rt,
+        alloc,
+        words.as_slice(),
+        shelf,
+        &mut out,
+        &mut err,
+        &NoGate,
+    );
+    Ok(Ending { exit, out, err })
+}
+
 /// Runs a command of these words over a shelf.
 pub fn run_over<F: Shelf>(
     alloc: Global,
@@ -45,12 +80,7 @@ pub fn run_over<F: Shelf>(
     out: Sinking,
     err: Sinking,
 ) -> Result<Ending, AllocError> {
-    let mut args = Vec::new(alloc);
-    args.push(String::from_str(alloc, "symbench")?)?;
-    for word in words {
-        args.push(String::from_str(alloc, word)?)?;
-    }
-    let words = words_of(alloc, args.into_iter())?;
+    let words = texts_of(alloc, words)?;
     let mut out = sink(alloc, out)?;
     let mut err = sink(alloc, err)?;
     let exit = answer_alone(alloc, words.as_slice(), shelf, &mut out, &mut err);

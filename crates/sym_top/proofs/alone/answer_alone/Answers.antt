@@ -3,7 +3,7 @@ use Rattle.run_files.specs.Shelves.{shelved}
 use Rattle.sym_top.specs.Asked.{asked}
 use Rattle.sym_top.specs.Calls.{ends, sunk}
 use Rattle.sym_top.proofs.Exact.{caused, spelled, done_for}
-use Rattle.sym_top.proofs.answer.answer_alone.Goals as goal
+use Rattle.sym_top.proofs.alone.answer_alone.Goals as goal
 
 pub returns-in-Some : goal.returns-in-Some
 returns-in-Some g c =

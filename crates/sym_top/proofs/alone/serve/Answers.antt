@@ -1,7 +1,7 @@
 use Rattle.std.proofs.Common.{inr}
 use Rattle.sym_top.specs.Asked.{asked}
 use Rattle.sym_top.proofs.OneCommand.{refuses-answered}
-use Rattle.sym_top.proofs.answer.serve.Goals as goal
+use Rattle.sym_top.proofs.alone.serve.Goals as goal
 
 pub returns-in-Err-clause-answer : goal.returns-in-Err-clause-answer
 returns-in-Err-clause-answer g c =

@@ -2,7 +2,7 @@ use Rattle.run_files.specs.Shelves.{shelved}
 use Rattle.sym_top.specs.Asked.{asked}
 use Rattle.sym_top.specs.Calls.{sunk}
 use Rattle.sym_top.proofs.Finishing.{finish_runs}
-use Rattle.sym_top.proofs.answer.run.Goals as goal
+use Rattle.sym_top.proofs.alone.run.Goals as goal
 
 pub returns-clause-runs : goal.returns-clause-runs
 returns-clause-runs g c =
