@@ -1,5 +1,5 @@
 -- The words of `run` are those of no other command, and spell one command.
-use Rattle.std.proofs.Common.{◌≡◌, ℕ, List, [], ◌∷◌, sym, ◌∙◌, subst}
+use Rattle.std.proofs.Common.{◌≡◌, ℕ, List, [], ◌∷◌, sym, ap, ◌∙◌, subst}
 use Rattle.std.specs.Prelude.{codes}
 use Rattle.sym_top.specs.CommandLine.{Command, one, asm, list, step, replay, load, Spells, IsNumber}
 use Rattle.sym_top.specs.Running.{RunWords, SpellsRun}
@@ -13,7 +13,11 @@ apart words a (step r w s t) (x, e, i) (v, f, j) = let both : codes "run" ∷ a.
 apart words a (replay r w t) (x, e, i) f = let both : codes "run" ∷ a.rig ∷ a.work ∷ x ∷ a.trace ∷ [] ≡ codes "replay" ∷ r ∷ w ∷ t ∷ [] = sym e ∙ f in cc
 apart words a (load n s) (x, e, i) (v, y, f, j, few, k) = let both : codes "run" ∷ a.rig ∷ a.work ∷ x ∷ a.trace ∷ [] ≡ codes "load" ∷ v ∷ y ∷ [] = sym e ∙ f in cc
 
+words-of : (rig work : List ℕ) (seed : ℕ) (trace : List ℕ) → RunWords
+words-of rig work seed trace = record { rig = rig; work = work; seed = seed; trace = trace }
+
 pub one_run : (words : List (List ℕ)) (a b : RunWords) → SpellsRun words a → SpellsRun words b → a ≡ b
+unfolding words-of
 one_run words a b (x, e, i) (y, f, j) =
     let both : codes "run" ∷ a.rig ∷ a.work ∷ x ∷ a.trace ∷ [] ≡ codes "run" ∷ b.rig ∷ b.work ∷ y ∷ b.trace ∷ [] = sym e ∙ f in
     let same : x ≡ y = cc in
@@ -21,7 +25,8 @@ one_run words a b (x, e, i) (y, f, j) =
     let rigs : a.rig ≡ b.rig = cc in
     let works : a.work ≡ b.work = cc in
     let traces : a.trace ≡ b.trace = cc in
-    cc
+    ap (λ (v : List ℕ). words-of v a.work a.seed a.trace) rigs ∙ ap (λ (v : List ℕ). words-of b.rig v a.seed a.trace) works ∙ ap (λ (n : ℕ). words-of b.rig b.work n a.trace) seeds
+    ∙ ap (λ (v : List ℕ). words-of b.rig b.work b.seed v) traces
 
 -- what holds of the command that the words spell holds of each that they spell
 pub spelled_run : (P : RunWords → Type 0) (words : List (List ℕ)) (a : RunWords) → SpellsRun words a → P a → (b : RunWords) → SpellsRun words b → P b

@@ -1,8 +1,10 @@
+use Rattle.std.proofs.Common.{refl}
 use Rattle.refusal_lines.specs.declared.exit.Exit.TheVariants as exits
 use Rattle.run_files.specs.Shelves.{shelved}
 use Rattle.sym_top.specs.Calls.{ends, sunk}
 use Rattle.sym_top.specs.CommandLine.{Command, Spells}
 use Rattle.sym_top.specs.RunAsked.{run_asked}
+use Rattle.sym_top.specs.Running.{RunWords, SpellsRun}
 use Rattle.sym_top.proofs.RunExact.{run_caused}
 use Rattle.sym_top.proofs.RunSpelling.{apart, spelled_run}
 use Rattle.sym_top.proofs.top.answer.Goals as goal
@@ -52,7 +54,7 @@ returns-in-Some g c =
 
 pub returns-in-None : goal.returns-in-None
 returns-in-None g c =
-    let none = c.in-None.ensures.none in
+    let none : (a : RunWords) → SpellsRun c.args.words.now a → ⊥ = c.in-None.ensures.none refl in
     let k = c.answer_alone.ensures in
     record {
       usage = (λ u. (k.usage.0 u, none), λ both. k.usage.1 both.0);
